@@ -46,16 +46,16 @@ first_cut (r ∷ records) n some leaving is =
 -- ---- what is told of records at once
 
 pub staying_text : (routes : Bool) (local : Address) (records : List Record) → 0 < length records
-    → unjudged_line local (record { before = 0; count = length records }) (codes "no record leaves Idle") ≡ ends_text routes local (front_ends (map shown_of records))
+    → unjudged_line local (length records) (codes "these records do not begin with a change from Idle") ≡ ends_text routes local (front_ends (map shown_of records))
 staying_text routes local [] some = absurd (omega (arith, some))
 staying_text routes local (r ∷ records) some =
-    ap (λ n. unjudged_line local (record { before = 0; count = n }) (codes "no record leaves Idle")) (sym (length-map (r ∷ records) shown_of)) ∙ sym (append-nil _)
+    ap (λ n. unjudged_line local n (codes "these records do not begin with a change from Idle")) (sym (length-map (r ∷ records) shown_of)) ∙ sym (append-nil _)
 
 pub silent_text : (routes : Bool) (local : Address) (records : List Record) → 0 < length records
-    → unjudged_line local (record { before = 0; count = length records }) (why_text NothingSent) ≡ ends_text routes local (silent_ends (map shown_of records))
+    → unjudged_line local (length records) (why_text NothingSent) ≡ ends_text routes local (silent_ends (map shown_of records))
 silent_text routes local [] some = absurd (omega (arith, some))
 silent_text routes local (r ∷ records) some =
-    ap (λ n. unjudged_line local (record { before = 0; count = n }) (why_text NothingSent)) (sym (length-map (r ∷ records) shown_of)) ∙ sym (append-nil _)
+    ap (λ n. unjudged_line local n (why_text NothingSent)) (sym (length-map (r ∷ records) shown_of)) ∙ sym (append-nil _)
 
 pub staying_counted : (tally : Tally) (records : List Record) → 0 < length records → with_unjudged tally true ≡ with_ends tally (front_ends (map shown_of records))
 staying_counted tally [] some = absurd (omega (arith, some))

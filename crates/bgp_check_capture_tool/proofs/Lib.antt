@@ -1,5 +1,6 @@
 pub mod Apart
 pub mod Numbers
+pub mod Standing
 pub mod Fronts
 pub mod ToldSoFar
 pub mod WholeSession

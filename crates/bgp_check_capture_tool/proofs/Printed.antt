@@ -1,9 +1,11 @@
 -- What the lines of a session are worth.
 use Rattle.std.proofs.Common.{◌≡◌, ◌∙◌, ◌+◌, ◌++◌, ℕ, zero, suc, Bool, List, [], ◌∷◌, Option, None, Some, codes, refl, sym, ap, append_assoc, append-nil, subst, arith, inl, inr, length, slice_index_or, take, unwrap_or}
+use Rattle.std.specs.Prelude.{option_map}
 use Rattle.std.specs.Fmt.{decimal}
 use Rattle.std.specs.List.{AllByRecursion, slice_get}
-use Rattle.bgp_prefix.specs.Shown.{ShownRecord}
+use Rattle.bgp_prefix.specs.Shown.{ShownRecord, second_of}
 use Rattle.bgp_prefix.specs.Text.{address_text}
+use Rattle.bgp_clock.specs.When.{when_text}
 use Rattle.bgp_prefix.specs.declared.address.Address.{Address}
 use Rattle.bgp_prefix.specs.declared.session.Session.{Session}
 use Rattle.mrt.specs.declared.fault.CaptureFault.{CaptureFault}
@@ -12,6 +14,10 @@ use Rattle.mrt_sessions.specs.Sessions.{records_between}
 use Rattle.mrt_sessions.specs.declared.addresses.Addresses.{Addresses}
 use Rattle.bgp_open.specs.declared.config.Config.{Config}
 use Rattle.bgp_machine.specs.Lists.{Each, Has}
+use Rattle.bgp_machine.specs.Run.{End as RunEnd}
+use Rattle.bgp_why.specs.Endpoint.{endpoint_text}
+use Rattle.bgp_why.specs.declared.endpoint.Endpoint.{Endpoint}
+use Rattle.bgp_why.specs.declared.place.Place.{Place}
 use Rattle.bgp_judge.specs.Verdict.{No, Unfinished, VerdictValue, Yes}
 use Rattle.bgp_parts.specs.Opens.{HasOwnOpen}
 use Rattle.bgp_parts.proofs.OneOwnOpen.{one_own}
@@ -20,20 +26,24 @@ use Rattle.bgp_check.specs.Configurations.{IsOf}
 use Rattle.bgp_check.specs.Cut.{IsWholeStretch}
 use Rattle.bgp_check.specs.Over.{HasVerdictOver}
 use Rattle.bgp_check.specs.WidestMade.{IsFaultless}
+use Rattle.bgp_check.specs.declared.not_judged.NotJudged.{NotJudged}
 use Rattle.bgp_check.specs.declared.peer_as.PeerAs.{PeerAs}
 use Rattle.bgp_check.specs.Left.{LeftVerdictIsOverAll}
 use Rattle.bgp_check.specs.Named.{NoNamesItsRecord}
 use Rattle.bgp_check.specs.StretchLaws.{IsLeftSo, JudgedAreStretches}
 use Rattle.bgp_check.specs.StretchTold.{IsStretchTold, ToldValue, place_of, with_leaving}
 use Rattle.bgp_check.proofs.Stretched.{no_by}
-use Rattle.bgp_check_text.specs.Text.{as_text, peer_text}
+use Rattle.bgp_check_text.specs.End.{as_text, end_text as name_text, part_by}
+use Rattle.bgp_check_text.specs.Text.{deed_if, no_line, not_judged_line, place_when, unfinished_line, yes_line, yes_lines}
+use Rattle.bgp_check_text.specs.declared.end.EndName.{EndName}
 use Rattle.bgp_check_capture_tool.specs.Checking.{Block, IsBlock}
 use Rattle.bgp_check_capture_tool.specs.Ends.{End, IsSessionTold, Silent, Staying, Stretch, session_of}
+use Rattle.bgp_check_capture_tool.specs.Naming.{endpoint_of}
+use Rattle.bgp_check_capture_tool.specs.Places.{place_after, place_to, second_at}
 use Rattle.bgp_check_capture_tool.specs.Printed.{BeginsWithNo, HasVerdictBy, IsTrueIfNo, IsTrueNo, NoesAreTrue, ReadStretch, ToldVerdictIsOverAll, judged_of}
 use Rattle.bgp_check_capture_tool.specs.StretchEnd.{StretchEnd}
 use Rattle.bgp_check_capture_tool.specs.Stretches.{first_of}
-use Rattle.bgp_check_capture_tool.specs.Text.{answer_text, end_text, no_text, part_text, unjudged_line, verdict_text, whose_text}
-use Rattle.bgp_check_capture_tool.specs.declared.part.Part.{Part}
+use Rattle.bgp_check_capture_tool.specs.Text.{answer_text, end_text, notes_text}
 use Rattle.bgp_check_capture_tool.specs.declared.telling.Telling.{Telling}
 use Rattle.bgp_check_capture_tool.proofs.Verdicts.{IsFound, found, left_so}
 
@@ -58,9 +68,9 @@ record IsNo (answer : AnswerValue) : Type 0 where
   pub count : ℕ
   pub is : answer ≡ JudgedAs number peer under (No count)
 
-unjudged_third : (local : Address) (part : Part) (why : List ℕ) → third (unjudged_line local part why) ≡ 116
-unfolding third unjudged_line
-unjudged_third local part why = refl
+unjudged_third : (name : EndName) (why : NotJudged) → third (not_judged_line name why) ≡ 116
+unfolding third not_judged_line
+unjudged_third name why = refl
 
 no_third : (rest : List ℕ) → third (codes "no " ++ rest) ≡ 32
 unfolding third
@@ -70,50 +80,58 @@ no_first : (rest : List ℕ) → first (codes "no " ++ rest) ≡ 110
 unfolding first
 no_first rest = refl
 
-yes_first : (rest : List ℕ) → first (codes "yes" ++ rest) ≡ 121
-unfolding first
-yes_first rest = refl
+yes_first : (routes : Bool) (name : EndName) (peer : PeerAs) (highest : ℕ) (ends : List RunEnd) (rest : List ℕ) → first (yes_lines routes name peer highest ends ++ rest) ≡ 121
+unfolding first yes_line
+yes_first routes name peer highest ends rest = refl
 
-unfinished_first : (rest : List ℕ) → first (codes "unfinished" ++ rest) ≡ 117
-unfolding first
-unfinished_first rest = refl
+unfinished_first : (place : Place) (name : EndName) (rest : List ℕ) → first (unfinished_line place name ++ rest) ≡ 117
+unfolding first unfinished_line
+unfinished_first place name rest = refl
 
-no_by_text : (routes : Bool) (local : Address) (end : StretchEnd) (answer : AnswerValue) (rest : List ℕ) → answer_text routes local end answer ≡ codes "no " ++ rest → IsNo answer
-no_by_text routes local end (Unjudged why) rest is =
-    let differs : 116 ≡ 32 = sym (unjudged_third local end.part _) ∙ ap third is ∙ no_third rest in absurd (omega (arith, differs))
-no_by_text routes local end (JudgedAs number peer under (Yes ends)) rest is =
-    let differs : 121 ≡ 110 = sym (yes_first _) ∙ ap first is ∙ no_first rest in absurd (omega (arith, differs))
-no_by_text routes local end (JudgedAs number peer under (No count)) rest is = record { number = number; peer = peer; under = under; count = count; is = refl }
-no_by_text routes local end (JudgedAs number peer under Unfinished) rest is =
-    let differs : 117 ≡ 110 = sym (unfinished_first _) ∙ ap first is ∙ no_first rest in absurd (omega (arith, differs))
+no_by_text : (routes : Bool) (end : StretchEnd) (answer : AnswerValue) (rest : List ℕ) → answer_text routes end answer ≡ codes "no " ++ rest → IsNo answer
+no_by_text routes end (Unjudged why) rest is =
+    let differs : 116 ≡ 32 = sym (unjudged_third end.name why) ∙ ap third is ∙ no_third rest in absurd (omega (arith, differs))
+no_by_text routes end (JudgedAs number peer under (Yes ends)) rest is =
+    let differs : 121 ≡ 110 = sym (yes_first routes end.name peer end.highest ends (notes_text end)) ∙ ap first is ∙ no_first rest in absurd (omega (arith, differs))
+no_by_text routes end (JudgedAs number peer under (No count)) rest is = record { number = number; peer = peer; under = under; count = count; is = refl }
+no_by_text routes end (JudgedAs number peer under Unfinished) rest is =
+    let differs : 117 ≡ 110 = sym (unfinished_first end.place end.name (end.reason ++ notes_text end)) ∙ ap first is ∙ no_first rest in absurd (omega (arith, differs))
 
 -- ---- the record that is named
 
--- the text of a no begins with the number of its record, and then the local system
-record Names (text : List ℕ) (number : ℕ) (local : Address) : Type 0 where
+-- the text of a no begins with the number of its record, and its time, and then the local system
+record Names (text : List ℕ) (number second : ℕ) (local : Address) : Type 0 where
   pub rest : List ℕ
-  pub is : text ≡ codes "no at record " ++ (decimal number ++ (codes ": " ++ (address_text local ++ rest)))
+  pub is : text ≡ codes "no at record " ++ (decimal number ++ (codes ", " ++ (when_text second None ++ (codes " UTC: " ++ (address_text local ++ rest)))))
 
-names : (part : Part) (place : ℕ) (local : Address) (number : Option ℕ) (peer : PeerAs) (more : List ℕ)
-    → Names (no_text part place ++ (whose_text local part number peer ++ more)) (part.before + place + 1) local
-unfolding no_text whose_text
-names part place local number peer more =
-    let tail = as_text number ++ (codes ", peer as " ++ (peer_text peer ++ (part_text part ++ codes "\n"))) in
-    let shown = decimal (part.before + place + 1) in
+names : (name : EndName) (local : Address) (before second : ℕ) (deed more : List ℕ) → name.end ≡ endpoint_of local
+    → Names (no_line (place_after before second) name deed ++ more) (before + 1) second local
+unfolding no_line place_when name_text
+names name local before second deed more is_end =
+    let number = decimal (before + 1) in
+    let when = when_text second None in
+    let its = endpoint_text name.end in
+    let about = codes " (" ++ (as_text name.as_number ++ (part_by name.part ++ codes ")")) in
+    let tail = deed_if deed ++ codes "\n" in
+    let rest = about ++ (tail ++ more) in
+    let time = codes ", " ++ (when ++ codes " UTC: ") in
+    let behind = (its ++ about) ++ tail in
+    let ending : behind ++ more ≡ address_text local ++ rest =
+    append_assoc (its ++ about) tail more ∙ append_assoc its about (tail ++ more) ∙ ap (λ (e : Endpoint). endpoint_text e ++ rest) is_end in
     record {
-      rest = tail ++ more;
-      is = append_assoc (codes "no at record ") shown ((codes ": " ++ (address_text local ++ tail)) ++ more)
-          ∙ ap (λ (text : List ℕ). codes "no at record " ++ (shown ++ (codes ": " ++ text))) (append_assoc (address_text local) tail more);
+      rest = rest;
+      is = ap (λ (text : List ℕ). codes "no at record " ++ text)
+          (append_assoc (number ++ time) behind more ∙ append_assoc number time (behind ++ more)
+          ∙ ap (λ (text : List ℕ). number ++ (codes ", " ++ text)) (append_assoc when (codes " UTC: ") (behind ++ more) ∙ ap (λ (text : List ℕ). when ++ (codes " UTC: " ++ text)) ending));
     }
 
-no_names : (routes : Bool) (local : Address) (end : StretchEnd) (number : Option ℕ) (peer : PeerAs) (count : ℕ)
-    → Names (verdict_text routes local end number peer (No count)) (end.part.before + unwrap_or end.told.impossible 0 + 1) local
-no_names routes local end number peer count = names end.part (unwrap_or end.told.impossible 0) local number peer _
-
-told_names : (routes : Bool) (local : Address) (end : StretchEnd) (number : Option ℕ) (peer : PeerAs) (under : Config) (count : ℕ) → end.told.answer ≡ JudgedAs number peer under (No count)
-    → Names (end_text routes local (Stretch end)) (end.part.before + unwrap_or end.told.impossible 0 + 1) local
-told_names routes local end number peer under count is =
-    subst (λ (a : AnswerValue). Names (answer_text routes local end a) (end.part.before + unwrap_or end.told.impossible 0 + 1) local) (sym is) (no_names routes local end number peer count)
+told_names : (routes : Bool) (local : Address) (end : StretchEnd) (number : Option ℕ) (peer : PeerAs) (under : Config) (count before second : ℕ)
+    → end.told.answer ≡ JudgedAs number peer under (No count) → end.place ≡ place_after before second → end.name.end ≡ endpoint_of local
+    → Names (end_text routes local (Stretch end)) (before + 1) second local
+told_names routes local end number peer under count before second is is_place is_end =
+    subst (λ (a : AnswerValue). Names (answer_text routes end a) (before + 1) second local) (sym is)
+    (subst (λ (p : Place). Names (no_line p end.name end.deed ++ (end.reason ++ notes_text end)) (before + 1) second local) (sym is_place)
+    (names end.name local before second end.deed (end.reason ++ notes_text end) is_end))
 
 -- where it stands
 behind_front : (front rest : List ShownRecord) (place : ℕ) (shown : ShownRecord) → slice_get rest place ≡ Some shown → slice_get (front ++ rest) (length front + place) ≡ Some shown
@@ -162,17 +180,20 @@ module _ (addresses : Addresses) (named : List Located) (plain : Bool) (end : St
       let is = f.is.is_told in
       let leaving = first_of f.behind in
       let judged = with_leaving is.left.records leaving in
-      let no = no_by_text routes addresses.local end end.told.answer begins.0 begins.1 in
+      let no = no_by_text routes end end.told.answer begins.0 begins.1 in
       let answered = no_by leaving is.answer no.number no.peer no.under no.count (sym is.is_answer ∙ no.is) in
       let there : IsJudged f.view.session judged no.number no.peer no.under (No no.count) = subst (λ (a : AnswerValue). IsAnswerTo f.view.session judged a) answered is.answers in
       let answer = subst (λ (s : Session). IsJudged s judged no.number no.peer no.under (No no.count)) f.is_session there in
       let stretch = are_stretches f.view.session f.stretch (length f.stretch) leaving end.told is f.stretched (left_so f.behind f.next) in
       let it = names_it f.view.session f.stretch leaving end.told no.number no.peer no.under no.count is no.is in
-      let place = ap (λ (p : Part). p.before + unwrap_or end.told.impossible 0 + 1) f.is.is_part ∙ ap (λ (o : Option ℕ). length f.front + unwrap_or o 0 + 1) it.is_named in
+      let place : end.place ≡ place_after (length f.front + it.place) (second_of it.shown) =
+      f.is.is_place ∙ ap (place_to (length f.front) end.told) no.is
+      ∙ ap (λ (o : Option ℕ). place_after (length f.front + unwrap_or o 0) (second_at end.told.records no.count)) it.is_named
+      ∙ ap (λ (o : Option ShownRecord). place_after (length f.front + it.place) (unwrap_or (option_map second_of o) 0)) it.is_judged in
       let found : it.place ≡ slice_index_or is.left.places no.count (length f.stretch) =
       ap (λ (o : Option ℕ). unwrap_or o 0) (sym it.is_named ∙ is.is_place ∙ ap (λ (a : AnswerValue). place_of a is.left.places (length f.stretch)) answered) in
-      let names = subst (λ (n : ℕ). Names (end_text routes addresses.local (Stretch end)) n addresses.local) place
-      (told_names routes addresses.local end no.number no.peer no.under no.count no.is) in
+      let its_end = f.is.is_name.is_end ∙ ap (λ (session : Session). endpoint_of session.local) f.is_session in
+      let names = told_names routes addresses.local end no.number no.peer no.under no.count (length f.front + it.place) (second_of it.shown) no.is place its_end in
       record {
         it = its_stretch;
         is_part = f.is.is_part;
@@ -201,8 +222,8 @@ module _ (explains : NoConfigurationExplains) (are_stretches : JudgedAreStretche
   ends_true : (addresses : Addresses) (named : List Located) (all ends : List End) (fault : Option CaptureFault) → IsSessionTold telling addresses named all fault
       → ((e : StretchEnd) → Has (λ one. one ≡ Stretch e) ends → Has (λ one. one ≡ Stretch e) all) → Each (IsTrueIfNo routes addresses named) ends
   ends_true addresses named all [] fault told among = tt
-  ends_true addresses named all (Silent part ∷ ends) fault told among = (tt, ends_true addresses named all ends fault told (λ e has. among e (inr has)))
-  ends_true addresses named all (Staying part ∷ ends) fault told among = (tt, ends_true addresses named all ends fault told (λ e has. among e (inr has)))
+  ends_true addresses named all (Silent count ∷ ends) fault told among = (tt, ends_true addresses named all ends fault told (λ e has. among e (inr has)))
+  ends_true addresses named all (Staying count ∷ ends) fault told among = (tt, ends_true addresses named all ends fault told (λ e has. among e (inr has)))
   ends_true addresses named all (Stretch end ∷ ends) fault told among = (
     λ begins. true_no addresses named telling.is_plain end (found telling addresses named end record { ends = all; fault = fault; told = told; among = among end (inl refl) })
         explains are_stretches names_it routes begins,

@@ -53,7 +53,7 @@ gives_the_verdict law telling addresses named end number peer under verdict line
     let whole = of_all f.view.telling f.view.named end.told under line (length f.front) (first_of f.behind) of_it in
     let judged = judged_all its f.stretch (length f.stretch) (first_of f.behind) end.told number peer under verdict f.is.is_told whole.1 is in
     let for_it = subst (λ (a : AnswerValue). AreOptionsTo f.view.telling f.view.named end.told a (Some line)) is whole.0 in
-    let (config, so) = of_told f.view.telling f.view.named end.told under line (are_told f.view.telling.settings verdict) for_it in (
+    let (config, so) = of_told f.view.telling f.view.named end.told under line (are_told f.view.telling.settings) for_it in (
       subst (λ (plain : Bool). IsReadAlike (session_of line) plain named end.told.records) f.is_plain
           (subst (λ (ls : List Located). IsReadAlike (session_of line) f.view.telling.is_plain ls end.told.records) f.is_named so.alike),
       subst (λ (c : Config). HasVerdict c end.told.records verdict) (sym (so.is_config ∙ so.same)) (law its end.told.records number peer under verdict judged).0,

@@ -72,8 +72,8 @@ module _ (view : View) (end : StretchEnd) (records : List ShownRecord) where
   found_in front (s ∷ stretches) rest (one ∷ ends) whole told each next (inr later) =
       let around = whole ∙ ap (λ (xs : List ShownRecord). front ++ xs) (append_assoc s (joined stretches) rest) ∙ sym (append_assoc front s (joined stretches ++ rest)) in
       found_in (front ++ s) stretches rest ends around (subst (λ (n : ℕ). AreTold view n stretches rest ends) (sym (length-append front s)) told.1) each.1 next later
-  found_in front (s ∷ stretches) rest (Silent part ∷ ends) whole told each next (inl same) = absurd told.0
-  found_in front (s ∷ stretches) rest (Staying part ∷ ends) whole told each next (inl same) = absurd told.0
+  found_in front (s ∷ stretches) rest (Silent count ∷ ends) whole told each next (inl same) = absurd told.0
+  found_in front (s ∷ stretches) rest (Staying count ∷ ends) whole told each next (inl same) = absurd told.0
   found_in front (s ∷ stretches) rest (Stretch one ∷ ends) whole told each next (inl same) = record {
     front = front;
     stretch = s;
@@ -84,8 +84,8 @@ module _ (view : View) (end : StretchEnd) (records : List ShownRecord) where
     next = at_leaving stretches rest each.1 next;
   } where
     held : End → StretchEnd
-    held (Silent part) = end
-    held (Staying part) = end
+    held (Silent count) = end
+    held (Staying count) = end
     held (Stretch e) = e
 
     inner : {a : StretchEnd} → Stretch a ≡ Stretch end → a ≡ end

@@ -7,8 +7,8 @@ use Rattle.bgp_check_text.specs.declared.tally.Tally.{Tally}
 use Rattle.bgp_check_capture_tool.specs.Ends.{End, Silent, Staying, Stretch}
 
 abbrev pub with_one : Tally → End → Tally
-with_one tally (Silent part) = with_unjudged tally true
-with_one tally (Staying part) = with_unjudged tally true
+with_one tally (Silent count) = with_unjudged tally true
+with_one tally (Staying count) = with_unjudged tally true
 with_one tally (Stretch end) = with_end tally end.told.answer
 
 abbrev pub with_ends : Tally → List End → Tally

@@ -17,14 +17,13 @@ use Rattle.bgp_list.specs.Capture.{no_memory}
 use Rattle.bgp_check_capture_tool.specs.Judging.{telling_where}
 use Rattle.bgp_check_capture_tool.specs.StretchEnd.{IsStretchEnd, StretchEnd, View}
 use Rattle.bgp_check_capture_tool.specs.Stretches.{AreCut, first_of}
-use Rattle.bgp_check_capture_tool.specs.declared.part.Part.{Part}
 use Rattle.bgp_check_capture_tool.specs.declared.telling.Telling.{Telling}
 
 pub data End : Type 0 where
-  -- these are all records of the session, and no message is sent
-  Silent : Part → End
-  -- these are the records before its first stretch
-  Staying : Part → End
+  -- the session has so many records, and no message is sent
+  Silent : ℕ → End
+  -- so many records stand before its first stretch
+  Staying : ℕ → End
   -- a stretch
   Stretch : StretchEnd → End
 
@@ -40,8 +39,8 @@ session_of addresses = record {
 -- ---- its stretches
 
 abbrev pub IsToldOf : View → ℕ → List ShownRecord → Option ShownRecord → End → Type 0
-IsToldOf view before stretch leaving (Silent part) = ⊥
-IsToldOf view before stretch leaving (Staying part) = ⊥
+IsToldOf view before stretch leaving (Silent count) = ⊥
+IsToldOf view before stretch leaving (Staying count) = ⊥
 IsToldOf view before stretch leaving (Stretch end) = IsStretchEnd view before stretch leaving end
 
 -- Of each of these stretches this is told; the first record of the next one, or of what is left
@@ -57,8 +56,7 @@ AreTold view before (stretch ∷ stretches) rest (end ∷ ends) =
 -- what stands before them is told of at once, if there is something
 abbrev pub front_ends : List ShownRecord → List End
 front_ends [] = []
-front_ends (first ∷ records) =
-    Staying (record { before = 0; count = length (first ∷ records) }) ∷ []
+front_ends (first ∷ records) = Staying (length (first ∷ records)) ∷ []
 
 -- of all stretches but those of the rest
 pub record TellsStretches (view : View) (records rest : List ShownRecord)
@@ -75,8 +73,7 @@ pub record TellsStretches (view : View) (records rest : List ShownRecord)
 -- of all of them at once, where no message is sent
 abbrev pub silent_ends : List ShownRecord → List End
 silent_ends [] = []
-silent_ends (first ∷ records) =
-    Silent (record { before = 0; count = length (first ∷ records) }) ∷ []
+silent_ends (first ∷ records) = Silent (length (first ∷ records)) ∷ []
 
 abbrev pub TellsRecords : View → List ShownRecord → List ShownRecord → List End → Type 0
 TellsRecords view records rest ends =

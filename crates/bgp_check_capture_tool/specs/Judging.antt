@@ -52,7 +52,7 @@ module _ (telling : Telling) (named : List Located) (told : ToldValue) where
   abbrev pub AreOptionsTo : AnswerValue → Option JudgeOptions → Type 0
   AreOptionsTo (Unjudged why) judge = judge ≡ None
   AreOptionsTo (JudgedAs number peer under verdict) judge =
-      AreOptionsFor (are_told telling.settings verdict) under judge
+      AreOptionsFor (are_told telling.settings) under judge
 
   -- Of a stretch before which so many records stand, and which this one leaves, if one does: there
   -- are none unless it is all of its session.

@@ -1,5 +1,7 @@
 pub mod Stretches
 pub mod Judging
+pub mod Naming
+pub mod Places
 pub mod StretchEnd
 pub mod Ends
 pub mod Text

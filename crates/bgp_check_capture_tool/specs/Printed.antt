@@ -3,8 +3,9 @@ use Rattle.std.specs.Prelude.{◌≡◌, ◌↔◌, ◌⊎◌, ◌<◌, ◌+◌,
 use Rattle.std.specs.Prelude.{Option, None, Some, codes, length, slice_index_or, take}
 use Rattle.std.specs.Fmt.{decimal}
 use Rattle.std.specs.List.{AllByRecursion, slice_get}
-use Rattle.bgp_prefix.specs.Shown.{ShownRecord}
+use Rattle.bgp_prefix.specs.Shown.{ShownRecord, second_of}
 use Rattle.bgp_prefix.specs.Text.{address_text}
+use Rattle.bgp_clock.specs.When.{when_text}
 use Rattle.mrt.specs.declared.fault.CaptureFault.{CaptureFault}
 use Rattle.mrt.specs.declared.fault.FaultKind.{FaultKind}
 use Rattle.mrt_sessions.specs.File.{HasSuchRecords, Located}
@@ -87,8 +88,8 @@ abbrev pub BeginsWithNo : Bool → Addresses → StretchEnd → Type 0
 BeginsWithNo routes addresses end =
     (rest : List ℕ) × (end_text routes addresses.local (Stretch end) ≡ codes "no " ++ rest)
 
--- They name a record of the session: of those that are judged in this stretch of it, the one after
--- so many, at its place among all that the session has. No run under a
+-- They name a record of the session, and its time: of those that are judged in this stretch of it,
+-- the one after so many, at its place among all that the session has. No run under a
 -- configuration under which the OPEN that was sent is the local system's own shows what is judged
 -- up to that record; nor all of it. Some run under one of these configurations shows what is judged
 -- before it, if there is such a configuration: it is the record at which no run goes on. If there
@@ -106,8 +107,9 @@ pub record IsTrueNo (routes : Bool) (addresses : Addresses) (named : List Locate
   pub stands : slice_get it.records place ≡ Some impossible
   pub rest : List ℕ
   pub is_named : end_text routes addresses.local (Stretch end)
-      ≡ codes "no at record " ++ (decimal (place + 1)
-      ++ (codes ": " ++ (address_text addresses.local ++ rest)))
+      ≡ codes "no at record " ++ (decimal (place + 1) ++ (codes ", "
+      ++ (when_text (second_of impossible) None ++ (codes " UTC: "
+      ++ (address_text addresses.local ++ rest)))))
   pub none : (own : Option (List ℕ)) (config : Config) → HasOwnOpen (judged_of it) own
       → IsOf (session_of addresses) own config
       → (¬ Begins config (take (count + 1) (judged_of it))) × (¬ Begins config (judged_of it))
@@ -119,8 +121,8 @@ pub record IsTrueNo (routes : Bool) (addresses : Addresses) (named : List Locate
 
 -- so it is of each stretch of a session whose lines begin so
 abbrev pub IsTrueIfNo : Bool → Addresses → List Located → End → Type 0
-IsTrueIfNo routes addresses named (Silent part) = Unit {0}
-IsTrueIfNo routes addresses named (Staying part) = Unit {0}
+IsTrueIfNo routes addresses named (Silent count) = Unit {0}
+IsTrueIfNo routes addresses named (Staying count) = Unit {0}
 IsTrueIfNo routes addresses named (Stretch end) =
     BeginsWithNo routes addresses end → IsTrueNo routes addresses named end
 

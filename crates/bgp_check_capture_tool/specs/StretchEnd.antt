@@ -1,17 +1,23 @@
 -- What is told of a stretch of a session in a capture.
-use Rattle.std.specs.Prelude.{◌≡◌, ◌+◌, ℕ, List, [], Option, None, Some, length, map}
+use Rattle.std.specs.Prelude.{◌≡◌, false, ℕ, List, [], Option, None, Some, length, map}
 use Rattle.bgp_prefix.specs.Shown.{ShownRecord}
 use Rattle.bgp_prefix.specs.declared.session.Session.{Session}
+use Rattle.bgp_why.specs.declared.endpoint.Endpoint.{Endpoint}
+use Rattle.bgp_why.specs.declared.place.Place.{Place}
 use Rattle.mrt_sessions.specs.File.{Located}
 use Rattle.mrt_sessions.specs.Located.{located}
 use Rattle.bgp_wire.specs.Header.{limit_with}
 use Rattle.bgp_check.specs.StretchTold.{IsStretchTold, ToldValue, told_value}
-use Rattle.bgp_check_text.specs.Reason.{IsReasonTo, reason_text}
+use Rattle.bgp_list.specs.Sessions.{first_second}
+use Rattle.bgp_check_text.specs.Reason.{IsReasonTo, deed_text, lines_text}
+use Rattle.bgp_check_text.specs.declared.end.EndName.{EndName}
 use Rattle.bgp_check_text.specs.declared.reason.Reason.{Reason}
 use Rattle.bgp_check_text.specs.Highest.{highest_state}
 use Rattle.bgp_explain.specs.Places.{numbered_places}
 use Rattle.bgp_check_text.specs.declared.options.JudgeOptions.{JudgeOptions}
 use Rattle.bgp_check_capture_tool.specs.Judging.{AreOptionsOf}
+use Rattle.bgp_check_capture_tool.specs.Naming.{IsNameOf, endpoint_of}
+use Rattle.bgp_check_capture_tool.specs.Places.{numbers_of, place_in}
 use Rattle.bgp_check_capture_tool.specs.declared.part.Part.{Part}
 use Rattle.bgp_check_capture_tool.specs.declared.stretch_end.StretchEnd.{StretchEnd as Held}
 use Rattle.bgp_check_capture_tool.specs.declared.stretch_end.View.{View as HeldView}
@@ -21,26 +27,39 @@ use Rattle.bgp_check_capture_tool.specs.declared.telling.Telling.{Telling}
 pub record StretchEnd : Type 0 where
   -- which records of the session it is
   pub part : Part
+  -- how a line names the local system
+  pub name : EndName
   pub told : ToldValue
   -- the number of the highest state that it tells
   pub highest : ℕ
+  -- the record at which a no stands, or after which it is unfinished
+  pub place : Place
+  -- what the record shows was done at which a no stands
+  pub deed : List ℕ
   -- the lines on why it is a no or unfinished, where it is
   pub reason : List ℕ
   -- how `bgp judge` gives the verdict, where it does and that is told
   pub judge : Option JudgeOptions
 
--- the lines of a reason, where there is one
-abbrev pub text_in : {X : Type 0} → Option (Reason X) → List ℕ
-text_in None = []
-text_in (Some reason) = reason_text reason
+-- the two parts of a reason, where there is one
+abbrev pub deed_in : {X : Type 0} → Option (Reason X) → List ℕ
+deed_in None = []
+deed_in (Some reason) = deed_text reason
+
+abbrev pub lines_in : {X : Type 0} → Option (Reason X) → List ℕ
+lines_in None = []
+lines_in (Some reason) = lines_text reason
 
 -- as it is held
 abbrev pub stretch_value : {X : Type 0} → Held X → StretchEnd
 stretch_value end = record {
   part = end.part;
+  name = end.name;
   told = told_value end.told;
   highest = end.highest;
-  reason = text_in end.reason;
+  place = end.place;
+  deed = deed_in end.reason;
+  reason = lines_in end.reason;
   judge = end.judge;
 }
 
@@ -58,23 +77,23 @@ view_value view = record {
   named = map located view.named.now;
 }
 
--- the numbers that the judged records of a stretch have in their session
-abbrev pub numbers_of : ℕ → List ℕ → List ℕ
-numbers_of before places = map (λ place. before + place + 1) places
-
--- why what is told of it is so, where it is a no or unfinished: the line of a message that was sent
--- goes by what the OPEN of its receiver offers that is heard in the stretch
-abbrev pub IsReasonFor : View → ℕ → ToldValue → List ℕ → Type 0
-IsReasonFor view before told reason =
-    IsReasonTo view.session (limit_with told.extended)
-    (numbered_places (numbers_of before told.places)) told.records told.answer reason
+-- why what is told of it is so, where it is a no or unfinished: the text of a message that was sent
+-- goes by what the OPEN of its receiver offers that is heard in the stretch, and a time has a date
+-- unless its day is that of the session's first record
+abbrev pub IsReasonFor : View → ℕ → ToldValue → List ℕ → List ℕ → Type 0
+IsReasonFor view before told deed lines =
+    IsReasonTo view.session (limit_with told.extended) (first_second view.named) false
+    (endpoint_of view.session.peer) (numbered_places (numbers_of before told.places)) told.records
+    told.answer deed lines
 
 -- This is told of the stretch before which so many records stand, and which this one leaves: what
 -- is answered of it, and why, and how `bgp judge` gives it.
 pub record IsStretchEnd (view : View) (before : ℕ) (stretch : List ShownRecord)
     (leaving : Option ShownRecord) (end : StretchEnd) : Type 0 where
   pub is_part : end.part ≡ record { before = before; count = length stretch }
+  pub is_name : IsNameOf view.session.local before stretch leaving end.name
   pub is_told : IsStretchTold view.session stretch (length stretch) leaving end.told
   pub is_highest : end.highest ≡ highest_state stretch
-  pub explains : IsReasonFor view before end.told end.reason
+  pub is_place : end.place ≡ place_in before end.told
+  pub explains : IsReasonFor view before end.told end.deed end.reason
   pub judges : AreOptionsOf view.telling view.named end.told before leaving end.judge

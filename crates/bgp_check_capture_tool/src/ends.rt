@@ -1,6 +1,7 @@
 //! What is told of a session, end by end.
 
 ghost use Rattle.std.specs.Prelude.{◌≡◌, Bool, map};
+ghost use Rattle.bgp_prefix.specs.declared.address.Address.{Address as TheAddress};
 ghost use Rattle.mrt.specs.Reader.{shown_of};
 ghost use Rattle.mrt_sessions.specs.Located.{located};
 ghost use Rattle.mrt_sessions.specs.Sessions.{records_between};
@@ -14,7 +15,6 @@ ghost use Rattle.bgp_check_capture_tool.specs.Text.{end_text, ends_text};
 
 use crate::cutting::{first_of, first_stretch};
 use crate::lines::{put_silent, put_staying, put_stretch};
-use crate::part::Part;
 use crate::stretch_end::{StretchEnd, View, end_of};
 use crate::telling::Telling;
 use bgp_check::{before_leaving, extended_messages, sends_some};
@@ -60,11 +60,7 @@ fn put_all_silent<W: Sink>(
         lines.put(b"");
         return tally;
     }
-    let part = Part {
-        before: 0,
-        count: records.len(),
-    };
-    put_silent(lines, local, part);
+    put_silent(lines, local, records.len());
     tally.with_unjudged(true)
 }
 
@@ -84,27 +80,22 @@ fn put_front<W: Sink>(
         lines.put(b"");
         return tally;
     }
-    let part = Part {
-        before: 0,
-        count: records.len(),
-    };
-    put_staying(lines, local, part);
+    put_staying(lines, local, records.len());
     tally.with_unjudged(true)
 }
 
 /// Puts what is told of a stretch, and answers the tally with it.
 fn put_told<W: Sink, A: Allocator>(
     lines: &mut Lines<'_, W>,
-    local: Address,
     end: StretchEnd<'_, A>,
     routes: bool,
     tally: Tally,
 ) -> Tally
-    ensures wrote { Writes lines.old lines.new
+    ensures wrote { (local : TheAddress) → Writes lines.old lines.new
         (end_text routes local (Stretch (stretch_value end.entry))) }
     ensures tallied { result ≡ with_one tally (Stretch (stretch_value end.entry)) }
 {
-    put_stretch(lines, local, &end, routes);
+    put_stretch(lines, &end, routes);
     tally.with_end(&end.told.answer)
 }
 
@@ -130,7 +121,7 @@ fn put_stretches<A: Allocator + Copy, T: Tracker<A>, W: Sink>(
         let Ok(end) = end_of::<A, T>(alloc, view, before, stretch, leaving) else {
             return (tally, false);
         };
-        tally = put_told(lines, local, end, view.telling.routes, tally);
+        tally = put_told(lines, end, view.telling.routes, tally);
         before = records.len() - behind.len();
         rest = behind;
     }

@@ -3,7 +3,6 @@
 ghost use Rattle.std.specs.Prelude.{◌≡◌, map, option_map};
 ghost use Rattle.mrt.specs.Reader.{shown_of};
 ghost use Rattle.mrt_sessions.specs.Located.{located};
-ghost use Rattle.bgp_judge.specs.Verdict.{verdict_value};
 ghost use Rattle.bgp_check.specs.Answered.{answer_value};
 ghost use Rattle.bgp_check.specs.StretchTold.{told_value};
 ghost use Rattle.bgp_check_text.specs.Settings.{are_told};
@@ -33,10 +32,9 @@ fn options_for<A: Allocator>(
     judged: &Judged<A>,
 ) -> Option<JudgeOptions>
     ensures { AreOptionsFor view.now.telling (map located view.now.named.now)
-        (told_value told.now) (are_told view.now.telling.settings
-        (verdict_value judged.now.verdict)) judged.now.under result }
+        (told_value told.now) (are_told view.now.telling.settings) judged.now.under result }
 {
-    if !view.telling.settings.are_told(&judged.verdict) {
+    if !view.telling.settings.are_told() {
         return None;
     }
     let config = told_configuration(&told.records, judged)?;

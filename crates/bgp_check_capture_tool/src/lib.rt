@@ -18,9 +18,11 @@ mod headline;
 mod judging;
 mod laws;
 mod lines;
+mod naming;
 mod nothing;
 mod options;
 mod part;
+mod places;
 mod stretch_end;
 mod telling;
 

@@ -1,102 +1,67 @@
 //! The lines of a session.
 
-ghost use Rattle.std.specs.Prelude.{◌≡◌, map, codes, unwrap_or};
-ghost use Rattle.std.specs.List.{flat_map};
-ghost use Rattle.bgp_judge.specs.Ends.{end_value};
+ghost use Rattle.std.specs.Prelude.{◌≡◌, codes};
 ghost use Rattle.bgp_judge.specs.Verdict.{verdict_value};
+ghost use Rattle.bgp_prefix.specs.declared.address.Address.{Address as TheAddress};
 ghost use Rattle.bgp_text.specs.Lines.{Writes};
 ghost use Rattle.bgp_check.specs.declared.not_judged.NotJudged.TheVariants.{NothingSent};
-ghost use Rattle.bgp_check_text.specs.Unshown.{passed_notes};
-ghost use Rattle.bgp_check_text.specs.Text.{as_text, ending_text, peer_text, why_text};
+ghost use Rattle.bgp_check_text.specs.Text.{why_text};
 ghost use Rattle.bgp_check_capture_tool.specs.Ends.{Stretch};
-ghost use Rattle.bgp_check_capture_tool.specs.Judging.{judge_text};
-ghost use Rattle.bgp_check_capture_tool.specs.StretchEnd.{stretch_value, text_in};
-ghost use Rattle.bgp_check_capture_tool.specs.Text.{end_text, no_text, part_text};
-ghost use Rattle.bgp_check_capture_tool.specs.Text.{unjudged_line, verdict_text, whose_text};
+ghost use Rattle.bgp_check_capture_tool.specs.Naming.{endpoint_of};
+ghost use Rattle.bgp_check_capture_tool.specs.StretchEnd.{deed_in, lines_in, stretch_value};
+ghost use Rattle.bgp_check_capture_tool.specs.Text.{end_text, notes_text, unjudged_line};
+ghost use Rattle.bgp_check_capture_tool.specs.Text.{verdict_text};
 
 use crate::judging::put_judge;
-use crate::part::Part;
+use crate::naming::endpoint_of;
 use crate::stretch_end::StretchEnd;
-use bgp_check::{Answer, Judged, NotJudged, PeerAs};
-use bgp_check_text::{Reason, put_as, put_endings, put_passed_over, put_peer, put_reason, put_why};
+use bgp_check::{Answer, Judged, NotJudged};
+use bgp_check_text::{
+    Reason, put_no, put_not_judged, put_part_end, put_passed_over, put_reason, put_unfinished,
+    put_why, put_yes,
+};
 use bgp_judge::Verdict;
 use bgp_prefix::Address;
-use bgp_text::{Lines, put_address};
+use bgp_text::Lines;
 use mrt::Sink;
 use std::alloc::Allocator;
 
-/// Which records these are, counted from 1.
-fn put_part<W: Sink>(lines: &mut Lines<'_, W>, part: Part)
-    ensures { Writes lines.old lines.new (part_text part) }
-{
-    lines.put(b", records ");
-    lines.put_decimal(part.before as u128 + 1);
-    lines.put(b" to ");
-    lines.put_decimal(part.before as u128 + part.count as u128);
-}
-
-/// The line of records that aren't judged for this.
-fn put_not_judged<W: Sink>(lines: &mut Lines<'_, W>, local: Address, part: Part, why: NotJudged)
-    ensures { Writes lines.old lines.new (unjudged_line local part (why_text why)) }
+/// The line of a session of so many records, in which no message is sent.
+pub(crate) fn put_silent<W: Sink>(lines: &mut Lines<'_, W>, local: Address, count: usize)
+    ensures { Writes lines.old lines.new (unjudged_line local count (why_text NothingSent)) }
 {
     lines.put(b"not judged: ");
-    put_address(lines, local);
-    put_part(lines, part);
-    lines.put(b", ");
-    put_why(lines, why);
-    lines.put(b"\n");
-}
-
-/// The line of the records of a session in which no message is sent.
-pub(crate) fn put_silent<W: Sink>(lines: &mut Lines<'_, W>, local: Address, part: Part)
-    ensures { Writes lines.old lines.new (unjudged_line local part (why_text NothingSent)) }
-{
-    put_not_judged(lines, local, part, NotJudged::NothingSent);
-}
-
-/// The line of the records before the first that leaves Idle.
-pub(crate) fn put_staying<W: Sink>(lines: &mut Lines<'_, W>, local: Address, part: Part)
-    ensures { Writes lines.old lines.new
-        (unjudged_line local part (codes "no record leaves Idle")) }
-{
-    lines.put(b"not judged: ");
-    put_address(lines, local);
-    put_part(lines, part);
-    lines.put(b", ");
-    lines.put(b"no record leaves Idle");
-    lines.put(b"\n");
-}
-
-/// The record at which a no stands: the one after so many of the stretch.
-fn put_no<W: Sink>(lines: &mut Lines<'_, W>, part: Part, place: usize)
-    ensures { Writes lines.old lines.new (no_text part place) }
-{
-    lines.put(b"no at record ");
-    lines.put_decimal(part.before as u128 + place as u128 + 1);
-}
-
-/// Whose verdict it is, after its word: the local system's, for which peer, and on which records.
-fn put_whose<W: Sink>(
-    lines: &mut Lines<'_, W>,
-    local: Address,
-    part: Part,
-    number: Option<u32>,
-    peer: PeerAs,
-)
-    ensures { Writes lines.old lines.new (whose_text local part number peer) }
-{
+    put_part_end(lines, &endpoint_of(local), (1, count as u64));
     lines.put(b": ");
-    put_address(lines, local);
-    put_as(lines, number);
-    lines.put(b", peer as ");
-    put_peer(lines, peer);
-    put_part(lines, part);
+    put_why(lines, NotJudged::NothingSent);
     lines.put(b"\n");
 }
 
-/// Why a verdict is a no or unfinished, where that is told.
-fn put_reason_in<W: Sink, A: Allocator>(lines: &mut Lines<'_, W>, reason: &Option<Reason<A>>)
-    ensures { Writes lines.old lines.new (text_in reason.now) }
+/// The line of so many records before the first that leaves Idle.
+pub(crate) fn put_staying<W: Sink>(lines: &mut Lines<'_, W>, local: Address, count: usize)
+    ensures { Writes lines.old lines.new (unjudged_line local count
+        (codes "these records do not begin with a change from Idle")) }
+{
+    lines.put(b"not judged: ");
+    put_part_end(lines, &endpoint_of(local), (1, count as u64));
+    lines.put(b": ");
+    lines.put(b"these records do not begin with a change from Idle");
+    lines.put(b"\n");
+}
+
+/// What the record shows was done at which a no stands.
+fn deed_in<A: Allocator>(reason: &Option<Reason<A>>) -> &[u8]
+    ensures { result.now ≡ deed_in reason.now }
+{
+    match reason {
+        Some(reason) => reason.deed(),
+        None => &[],
+    }
+}
+
+/// Why a verdict is a no or unfinished, where it is.
+fn put_lines_in<W: Sink, A: Allocator>(lines: &mut Lines<'_, W>, reason: &Option<Reason<A>>)
+    ensures { Writes lines.old lines.new (lines_in reason.now) }
 {
     match reason {
         Some(reason) => put_reason(lines, reason),
@@ -104,39 +69,46 @@ fn put_reason_in<W: Sink, A: Allocator>(lines: &mut Lines<'_, W>, reason: &Optio
     }
 }
 
+/// The notes behind a verdict and its reason.
+fn put_notes<W: Sink, A: Allocator>(lines: &mut Lines<'_, W>, end: &StretchEnd<'_, A>)
+    ensures { Writes lines.old lines.new (notes_text (stretch_value end.now)) }
+{
+    put_passed_over(lines, end.told.received, end.told.sent);
+    put_judge(lines, end.judge);
+}
+
 /// The lines of a stretch's verdict.
 fn put_verdict<W: Sink, A: Allocator>(
     lines: &mut Lines<'_, W>,
-    local: Address,
     end: &StretchEnd<'_, A>,
     judged: &Judged<A>,
     routes: bool,
 )
-    ensures { Writes lines.old lines.new (verdict_text routes local (stretch_value end.now)
-        judged.now.as_number judged.now.peer_as (verdict_value judged.now.verdict)) }
+    ensures { Writes lines.old lines.new (verdict_text routes (stretch_value end.now)
+        judged.now.peer_as (verdict_value judged.now.verdict)) }
 {
-    let (received, sent) = (end.told.received, end.told.sent);
+    let (name, highest) = (&end.name, end.highest);
     match &judged.verdict {
         Verdict::Yes(endings) => {
-            lines.put(b"yes");
-            put_whose(lines, local, end.part, judged.as_number, judged.peer_as);
-            put_endings(lines, endings.as_slice(), end.highest, routes);
-            put_passed_over(lines, received, sent);
-            put_judge(lines, end.judge);
+            put_yes(
+                lines,
+                name,
+                judged.peer_as,
+                endings.as_slice(),
+                highest,
+                routes,
+            );
+            put_notes(lines, end);
         }
         Verdict::No(_) => {
-            put_no(lines, end.part, end.told.impossible.unwrap_or(0));
-            put_whose(lines, local, end.part, judged.as_number, judged.peer_as);
-            put_reason_in(lines, &end.reason);
-            put_passed_over(lines, received, sent);
-            put_judge(lines, end.judge);
+            put_no(lines, &end.place, name, deed_in(&end.reason));
+            put_lines_in(lines, &end.reason);
+            put_notes(lines, end);
         }
         Verdict::Unfinished => {
-            lines.put(b"unfinished");
-            put_whose(lines, local, end.part, judged.as_number, judged.peer_as);
-            put_reason_in(lines, &end.reason);
-            put_passed_over(lines, received, sent);
-            put_judge(lines, end.judge);
+            put_unfinished(lines, &end.place, name);
+            put_lines_in(lines, &end.reason);
+            put_notes(lines, end);
         }
     }
 }
@@ -144,14 +116,14 @@ fn put_verdict<W: Sink, A: Allocator>(
 /// The lines of a stretch.
 pub(crate) fn put_stretch<W: Sink, A: Allocator>(
     lines: &mut Lines<'_, W>,
-    local: Address,
     end: &StretchEnd<'_, A>,
     routes: bool,
 )
-    ensures { Writes lines.old lines.new (end_text routes local (Stretch (stretch_value end.now))) }
+    ensures { (local : TheAddress) → Writes lines.old lines.new
+        (end_text routes local (Stretch (stretch_value end.now))) }
 {
     match &end.told.answer {
-        Answer::NotJudged(why) => put_not_judged(lines, local, end.part, *why),
-        Answer::Judged(judged) => put_verdict(lines, local, end, judged, routes),
+        Answer::NotJudged(why) => put_not_judged(lines, &end.name, *why),
+        Answer::Judged(judged) => put_verdict(lines, end, judged, routes),
     }
 }

@@ -1,24 +1,28 @@
 //! What is told of a stretch of a session.
 
-ghost use Rattle.std.specs.Prelude.{◌≡◌, ◌<◌, ◌+◌, IfOk, length, map, option_map};
+ghost use Rattle.std.specs.Prelude.{◌<◌, ◌+◌, IfOk, length, map, option_map};
 ghost use Rattle.std.specs.List.{AllByRecursion};
 ghost use Rattle.mrt.specs.Reader.{shown_of};
 ghost use Rattle.mrt_sessions.specs.Located.{located};
 ghost use Rattle.bgp_check.specs.Answered.{IsAnswerTo, answer_value};
 ghost use Rattle.bgp_check.specs.StretchTold.{told_value};
-ghost use Rattle.bgp_check_text.specs.Reason.{reason_text};
+ghost use Rattle.bgp_check_text.specs.Reason.{deed_text, lines_text};
 ghost use Rattle.bgp_check_capture_tool.specs.Judging.{IsToldOfSome};
-ghost use Rattle.bgp_check_capture_tool.specs.StretchEnd.{IsReasonFor, IsStretchEnd, stretch_value};
-ghost use Rattle.bgp_check_capture_tool.specs.StretchEnd.{numbers_of, text_in, view_value};
+ghost use Rattle.bgp_check_capture_tool.specs.StretchEnd.{IsReasonFor, IsStretchEnd, deed_in};
+ghost use Rattle.bgp_check_capture_tool.specs.StretchEnd.{lines_in, stretch_value, view_value};
 
 use crate::judging::options_of;
+use crate::naming::{endpoint_of, name_of};
 use crate::part::Part;
+use crate::places::{numbers_of, place_in};
 use crate::telling::Telling;
 use bgp_check::{Answer, StretchTold, check_stretch};
-use bgp_check_text::{JudgeOptions, Reason, highest_state, is_no_yes, reason_of};
+use bgp_check_text::{EndName, JudgeOptions, Reason, highest_state, is_no_yes, reason_of};
 use bgp_explain::Places;
 use bgp_judge::Tracker;
+use bgp_list::first_second;
 use bgp_prefix::Session;
+use bgp_why::Place;
 use bgp_wire::Limit;
 use mrt::Record;
 use mrt_sessions::NamedRecord;
@@ -39,31 +43,18 @@ pub(crate) struct View<'a> {
 pub(crate) struct StretchEnd<'a, A: Allocator> {
     /// Which records of the session it is.
     pub(crate) part: Part,
+    /// How its lines name the local system.
+    pub(crate) name: EndName,
     /// What is answered of it.
     pub(crate) told: StretchTold<'a, A>,
     /// The number of the highest state that it tells (RFC 6396, 4.4.1).
     pub(crate) highest: u16,
+    /// The record at which a no stands, or after which it is unfinished.
+    pub(crate) place: Place,
     /// Why it is a no or unfinished, where it is.
     pub(crate) reason: Option<Reason<A>>,
     /// How `bgp judge` gives the verdict, where it does and that is told.
     pub(crate) judge: Option<JudgeOptions>,
-}
-
-/// The numbers that the judged records of a stretch have in their session, before which so many
-/// stand.
-fn numbers_of<A: Allocator + Copy>(
-    alloc: A,
-    before: usize,
-    places: &[usize],
-) -> Result<Vec<u64, A>, AllocError>
-    requires few { AllByRecursion (λ place. before + place < usize.MAX) places.now }
-    ensures { IfOk result (λ numbers. numbers.items ≡ numbers_of before places.now) }
-{
-    let mut numbers = Vec::new(alloc);
-    for place in places {
-        numbers.push((before + *place) as u64 + 1)?;
-    }
-    Ok(numbers)
 }
 
 /// Why a verdict on a stretch that isn't yes is so.
@@ -78,12 +69,22 @@ fn explained<A: Allocator + Copy, T: Tracker<A>>(
     requires answer { IsAnswerTo view.now.session (map shown_of told.now.records.items)
         (answer_value told.now.answer) }
     ensures { IfOk result (λ reason. IsReasonFor (view_value view.now) before
-        (told_value told.now) (reason_text reason)) }
+        (told_value told.now) (deed_text reason) (lines_text reason)) }
 {
     let numbers = numbers_of(alloc, before, &told.places)?;
     let places = Places::Numbered(&numbers);
     let sent = Limit::with_extended(told.extended);
-    reason_of::<A, T>(alloc, sent, places, &told.records, &told.answer)
+    let first = first_second(view.named);
+    let peer = endpoint_of(view.session.peer);
+    reason_of::<A, T>(
+        alloc,
+        sent,
+        first,
+        &peer,
+        places,
+        &told.records,
+        &told.answer,
+    )
 }
 
 /// Why a verdict on a stretch is a no or unfinished, where it is.
@@ -97,7 +98,7 @@ fn reason_for<A: Allocator + Copy, T: Tracker<A>>(
         told.now.places.items }
     requires told { IsToldOfSome view.now.session (told_value told.now) }
     ensures { IfOk result (λ reason. IsReasonFor (view_value view.now) before
-        (told_value told.now) (text_in reason)) }
+        (told_value told.now) (deed_in reason) (lines_in reason)) }
 {
     match &told.answer {
         Answer::Judged(judged) if is_no_yes(&judged.verdict) => {
@@ -123,13 +124,16 @@ pub(crate) fn end_of<'a, A: Allocator + Copy, T: Tracker<A>>(
     let told = check_stretch::<A, T>(alloc, &view.session, stretch, leaving)?;
     let reason = reason_for::<A, T>(alloc, view, before, &told)?;
     let judge = options_of(view, before, leaving, &told);
+    let place = place_in(before, &told);
     Ok(StretchEnd {
         part: Part {
             before,
             count: stretch.len(),
         },
+        name: name_of(view.session.local, before, stretch, leaving),
         told,
         highest: highest_state(stretch),
+        place,
         reason,
         judge,
     })

@@ -5,6 +5,7 @@ mod Refreshes
 mod SameOptions
 pub mod Reasons
 pub mod EachShown
+mod EachEnd
 pub mod Written
 pub mod Held
 pub mod RestTexts

@@ -5,7 +5,7 @@ use Rattle.std.specs.Fmt.{decimal}
 use Rattle.bgp_check_text.specs.Unshown.{behind_note, end_name, passed_note, short_note}
 
 pub some_passed : (way : List ℕ) (count : ℕ) → 0 < count
-    → passed_note way count ≡ codes "  note " ++ (way ++ (codes " ROUTE-REFRESH messages passed over: " ++ (decimal count ++ codes "\n")))
+    → passed_note way count ≡ codes "  note: ROUTE-REFRESH messages " ++ (way ++ (codes ", not judged: " ++ (decimal count ++ codes "\n")))
 unfolding passed_note
 some_passed way count some = rw (lt-ltb 0 count some) refl
 
@@ -15,14 +15,14 @@ none_passed way zero none = refl
 none_passed way (suc count) none = absurd (omega (arith, none))
 
 pub some_short : (way : List ℕ) (count : ℕ) → 0 < count
-    → short_note way count ≡ codes "  note " ++ (way ++ (codes ": the last " ++ (decimal count ++ codes " octets are no whole message\n")))
+    → short_note way count ≡ codes "  note: octets " ++ (way ++ (codes " of an incomplete last message: " ++ (decimal count ++ codes "\n")))
 unfolding short_note
 some_short way count some = rw (lt-ltb 0 count some) refl
 
 pub some_behind : (way : List ℕ) (place count : ℕ) (is_refresh : Bool) → 0 < count
     → behind_note way place count is_refresh
-    ≡ codes "  note " ++ (way ++ (codes ": " ++ (decimal count ++ (codes " octets behind the " ++ (end_name is_refresh ++ (codes " at octet "
-    ++ (decimal place ++ codes " are not read\n")))))))
+    ≡ codes "  note: octets " ++ (way ++ (codes " after the " ++ (end_name is_refresh ++ (codes " at octet " ++ (decimal place ++ (codes ", not read: "
+    ++ (decimal count ++ codes "\n")))))))
 unfolding behind_note
 some_behind way place count is_refresh some = rw (lt-ltb 0 count some) refl
 

@@ -2,7 +2,7 @@
 use Rattle.std.proofs.Common.{◌≡◌, ◌++◌, Bool, true, false, codes, refl}
 use Rattle.bgp_open.specs.declared.route_offer.RouteOffer.{RouteOffer}
 use Rattle.bgp_open.specs.RouteOffer.{nothing}
-use Rattle.bgp_parts_text.specs.Offers.{offer_text, offers_something}
+use Rattle.bgp_why_parts.specs.Offers.{offer_text, offers_something}
 use Rattle.bgp_check_text.specs.JudgeLine.{offers_option}
 
 abbrev offering : (a b c d e : Bool) → RouteOffer

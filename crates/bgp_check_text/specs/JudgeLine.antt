@@ -1,4 +1,4 @@
--- The line that tells how `bgp judge` is asked for a verdict.
+-- The line with the `bgp judge` command that reproduces a verdict.
 use Rattle.std.specs.Prelude.{◌==◌, ◌++◌, ℕ, Bool, true, false, not, List, [], Option, None, Some}
 use Rattle.std.specs.Prelude.{codes, if◌then◌else◌, option_map}
 use Rattle.std.specs.Fmt.{decimal}
@@ -8,7 +8,7 @@ use Rattle.bgp_prefix.specs.declared.session.Session.{Session}
 use Rattle.bgp_open.specs.declared.config.Config.{Config}
 use Rattle.bgp_open.specs.declared.families.Families.{Families}
 use Rattle.bgp_open.specs.declared.route_offer.RouteOffer.{RouteOffer}
-use Rattle.bgp_parts_text.specs.Offers.{offer_text, offers_something}
+use Rattle.bgp_why_parts.specs.Offers.{offer_text, offers_something}
 use Rattle.bgp_check_text.specs.declared.options.Asked.{Asked}
 use Rattle.bgp_check_text.specs.declared.options.JudgeOptions.{JudgeOptions}
 
@@ -83,6 +83,6 @@ asked_text asked =
 
 unfoldable pub judge_line : JudgeOptions → List ℕ
 judge_line options =
-    codes "  judge" ++ (needs_text options.config
+    codes "  repeat: bgp judge" ++ (needs_text options.config
     ++ (addresses_text options.config.parts.session ++ (choices_text options.config
-    ++ (refresh_text options ++ (asked_text options.asked ++ codes "\n")))))
+    ++ (refresh_text options ++ (asked_text options.asked ++ codes " FILE\n")))))

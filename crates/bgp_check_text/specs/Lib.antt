@@ -1,4 +1,7 @@
+pub mod AsNumber
 pub mod Highest
+pub mod End
+pub mod States
 pub mod Text
 pub mod Tally
 pub mod Settings
@@ -10,4 +13,5 @@ pub mod OfCapture
 pub mod OwnFaults
 pub mod Shown
 pub mod Reason
+pub mod SentDeed
 pub mod Unshown

@@ -7,7 +7,7 @@ use Rattle.bgp_check.specs.Configurations.{as_of, own_faults}
 use Rattle.bgp_parts.specs.Opens.{HasOwnOpen}
 use Rattle.bgp_check.specs.declared.own_fault.OwnFault.{OwnFault}
 use Rattle.bgp_check.specs.declared.own_fault.OwnFault.TheVariants.{AsNumber, Identifier, Hold}
-use Rattle.bgp_reason_text.specs.declared.own_faults.OwnFaults.{OwnFaults}
+use Rattle.bgp_why_parts.specs.declared.own_faults.OwnFaults.{OwnFaults}
 
 -- each own fault of an OPEN, with what it says
 pub record AreOwnFaults (message : OpenFields) (faults : OwnFaults) : Type 0 where

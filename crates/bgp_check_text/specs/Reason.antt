@@ -13,25 +13,37 @@ use Rattle.bgp_parts.specs.Opens.{HasOwnOpen}
 use Rattle.bgp_check.specs.declared.own_fault.OwnFault.{OwnFault}
 use Rattle.bgp_check.specs.declared.peer_as.PeerAs.{PeerAs}
 use Rattle.bgp_check.specs.declared.peer_as.PeerAs.TheVariants.{Any, Is, OtherThan}
-use Rattle.bgp_explain.specs.Records.{SaysOfRecords}
-use Rattle.bgp_explain.specs.declared.places.Place.{Place}
-use Rattle.bgp_reason_text.specs.declared.own_faults.OwnFaults.{OwnFaults}
-use Rattle.bgp_reason_text.specs.declared.style.Style.{Style}
+use Rattle.bgp_explain.specs.Records.{SaysDeed, SaysLines}
+use Rattle.bgp_explain.specs.declared.places.Places.{Places}
+use Rattle.bgp_explain.specs.declared.places.Places.TheVariants.{Counted, Numbered, Shown}
+use Rattle.bgp_why.specs.declared.endpoint.Endpoint.{Endpoint}
+use Rattle.bgp_why.specs.declared.place.Place.{Place}
+use Rattle.bgp_why.specs.declared.style.Style.{Style}
+use Rattle.bgp_why_parts.specs.declared.own_faults.OwnFaults.{OwnFaults}
 use Rattle.bgp_wire.specs.declared.header.Limit.{Limit}
 use Rattle.bgp_check_text.specs.OwnFaults.{AreOwnFaults}
 use Rattle.bgp_check_text.specs.Shown.{CanBeTold, session_at}
 use Rattle.bgp_check_text.specs.declared.reason.Reason.{Reason}
 
--- What `bgp judge --explain` says of these records under a configuration, after the verdict, each
--- with its place, but in this style, and the line of a record that was sent goes by the limit of
--- its receiver; nothing, where no capture can hold them.
-abbrev pub IsSaid : Config → Style → Limit → (ℕ → Place) → List ShownRecord → VerdictValue
-    → List ℕ → Type 0
-IsSaid config style sent places records verdict text =
+-- What `bgp judge --explain` says of these records under a configuration after the verdict, in two
+-- parts: what the impossible record shows was done, between the end and this peer; and the lines
+-- after that. Each record has its place, and a session says how long a message may be.
+abbrev pub SaysSo : Config → Style → Session → Endpoint → Option ℕ → (ℕ → ℕ → Place)
+    → List ShownRecord → VerdictValue → List ℕ → List ℕ → Type 0
+SaysSo config style session peer another places records verdict deed lines =
+    SaysDeed config style session peer records verdict deed
+    × SaysLines config style session another places records verdict lines
+
+-- A record that was sent goes by the limit of its receiver. Nothing is said of records that no
+-- capture can hold.
+abbrev pub IsSaid : Config → Style → Limit → Endpoint → Option ℕ → (ℕ → ℕ → Place)
+    → List ShownRecord → VerdictValue → List ℕ → List ℕ → Type 0
+IsSaid config style sent peer another places records verdict deed lines =
     (AllByRecursion (CanBeTold config.parts.session sent) records
-    × SaysOfRecords config style (session_at config.parts.session sent records verdict) places
-    records verdict text)
-    ⊎ ((¬ AllByRecursion (CanBeTold config.parts.session sent) records) × (text ≡ []))
+    × SaysSo config style (session_at config.parts.session sent records verdict) peer another
+    places records verdict deed lines)
+    ⊎ ((¬ AllByRecursion (CanBeTold config.parts.session sent) records)
+    × (deed ≡ []) × (lines ≡ []))
 
 -- ---- the style
 
@@ -40,6 +52,18 @@ abbrev pub is_of_another : PeerAs → Bool
 is_of_another Any = false
 is_of_another (Is number) = false
 is_of_another (OtherThan number) = true
+
+-- the AS number that its OPEN says, then
+abbrev pub another_of : PeerAs → Option ℕ
+another_of Any = None
+another_of (Is number) = None
+another_of (OtherThan number) = Some number
+
+-- packets show the records
+abbrev pub are_shown : Places → Bool
+are_shown Counted = false
+are_shown (Shown entries) = true
+are_shown (Numbered numbers) = false
 
 -- all own faults of an OPEN, if it has one
 abbrev pub AreFaultsOf : List ℕ → Option OwnFaults → Type 0
@@ -61,51 +85,55 @@ AreFaultsIn records (Yes ends) faults = faults ≡ None
 AreFaultsIn records (No count) faults = AreFaultsAt records count faults
 AreFaultsIn records Unfinished faults = faults ≡ None
 
--- Each line is indented, and no longer than 200 octets; the peer's AS number may be free; and own
--- faults are told in place of what an OPEN lacks.
-abbrev pub style_of : PeerAs → Option OwnFaults → Style
-style_of peer faults = record {
-  is_indented = true;
-  most = Some 200;
+-- The session's first record has that second; the peer's AS number may be free; and own faults are
+-- told in place of what an OPEN lacks.
+abbrev pub style_of : ℕ → Bool → PeerAs → Option OwnFaults → Style
+style_of first is_recording peer faults = record {
+  first = first;
+  is_recording = is_recording;
   peer_as_is_free = is_of_another peer;
   own_faults = faults;
 }
 
 -- ---- all of it
 
--- The configuration under which the verdict is told, and what is said of it.
-pub record IsExplained (session : Session) (sent : Limit) (places : ℕ → Place)
-    (records : List ShownRecord) (peer : PeerAs) (config : Config) (verdict : VerdictValue)
-    (text : List ℕ) : Type 0 where
-  pub under : IsWidestFor session records peer config
-  pub holds : HasVerdict config records verdict
-  pub faults : Option OwnFaults
-  pub are_faults : AreFaultsIn records verdict faults
-  pub is_said : IsSaid config (style_of peer faults) sent places records verdict text
+-- The end of this session sends what its receiver allows. Its first record has that second, its
+-- records are those of a recording or not, and they stand at these places.
+module _ (session : Session) (sent : Limit) (first : ℕ) (is_recording : Bool) (its_peer : Endpoint)
+    (places : ℕ → ℕ → Place) (records : List ShownRecord) where
+  -- The configuration under which the verdict is told, and what is said of it.
+  pub record IsExplained (peer : PeerAs) (config : Config) (verdict : VerdictValue)
+      (deed lines : List ℕ) : Type 0 where
+    pub under : IsWidestFor session records peer config
+    pub holds : HasVerdict config records verdict
+    pub faults : Option OwnFaults
+    pub are_faults : AreFaultsIn records verdict faults
+    pub is_said : IsSaid config (style_of first is_recording peer faults) sent its_peer
+        (another_of peer) places records verdict deed lines
 
--- of records that have a verdict under this configuration, whatever it is
-abbrev pub IsToldAs : Session → Limit → (ℕ → Place) → List ShownRecord → PeerAs → Config
-    → Option OwnFaults → List ℕ → Type 0
-IsToldAs session sent places records peer config faults text =
-    (verdict : VerdictValue) → IsWidestFor session records peer config
-    → HasVerdict config records verdict → AreFaultsIn records verdict faults
-    → IsExplained session sent places records peer config verdict text
+  -- of records that have a verdict under this configuration, whatever it is
+  abbrev pub IsToldAs : PeerAs → Config → Option OwnFaults → List ℕ → List ℕ → Type 0
+  IsToldAs peer config faults deed lines =
+      (verdict : VerdictValue) → IsWidestFor session records peer config
+      → HasVerdict config records verdict → AreFaultsIn records verdict faults
+      → IsExplained peer config verdict deed lines
 
--- of a yes nothing is told
-abbrev pub IsReasonOf : Session → Limit → (ℕ → Place) → List ShownRecord → PeerAs → Config
-    → VerdictValue → List ℕ → Type 0
-IsReasonOf session sent places records peer config (Yes ends) text = text ≡ []
-IsReasonOf session sent places records peer config (No count) text =
-    IsExplained session sent places records peer config (No count) text
-IsReasonOf session sent places records peer config Unfinished text =
-    IsExplained session sent places records peer config Unfinished text
+  -- of a yes nothing is told
+  abbrev pub IsReasonOf : PeerAs → Config → VerdictValue → List ℕ → List ℕ → Type 0
+  IsReasonOf peer config (Yes ends) deed lines = (deed ≡ []) × (lines ≡ [])
+  IsReasonOf peer config (No count) deed lines =
+      IsExplained peer config (No count) deed lines
+  IsReasonOf peer config Unfinished deed lines =
+      IsExplained peer config Unfinished deed lines
 
-abbrev pub IsReasonTo : Session → Limit → (ℕ → Place) → List ShownRecord → AnswerValue → List ℕ
-    → Type 0
-IsReasonTo session sent places records (Unjudged why) text = text ≡ []
-IsReasonTo session sent places records (JudgedAs number peer config verdict) text =
-    IsReasonOf session sent places records peer config verdict text
+  abbrev pub IsReasonTo : AnswerValue → List ℕ → List ℕ → Type 0
+  IsReasonTo (Unjudged why) deed lines = (deed ≡ []) × (lines ≡ [])
+  IsReasonTo (JudgedAs number peer config verdict) deed lines =
+      IsReasonOf peer config verdict deed lines
 
--- the lines of one
-abbrev pub reason_text : {X : Type 0} → Reason X → List ℕ
-reason_text reason = reason.text.items
+-- what a reason holds
+abbrev pub deed_text : {X : Type 0} → Reason X → List ℕ
+deed_text reason = reason.deed.items
+
+abbrev pub lines_text : {X : Type 0} → Reason X → List ℕ
+lines_text reason = reason.lines.items

@@ -1,86 +1,70 @@
--- What is told of an end, piece by piece.
-use Rattle.std.specs.Prelude.{◌++◌, ◌+◌, ◌==◌, Bool, true, false, ℕ, List, [], Option, None, Some}
-use Rattle.std.specs.Prelude.{codes, if◌then◌else◌, length, nat_lt}
-use Rattle.std.specs.Fmt.{decimal}
-use Rattle.std.specs.List.{flat_map}
-use Rattle.bgp_update.specs.declared.destination.Destination.{Destination}
-use Rattle.bgp_path.specs.Path.{PathValue}
-use Rattle.bgp_open.specs.declared.families.Families.{Families}
+-- The lines that begin with a verdict on an end.
+use Rattle.std.specs.Prelude.{◌++◌, Bool, ℕ, List, [], ◌∷◌, codes}
+use Rattle.bgp_clock.specs.When.{when_text}
 use Rattle.bgp_machine.specs.Run.{End}
-use Rattle.bgp_machine.specs.State.{number_of}
-use Rattle.bgp_text.specs.RouteText.{route_text}
 use Rattle.bgp_check.specs.declared.not_judged.NotJudged.{NotJudged}
 use Rattle.bgp_check.specs.declared.not_judged.NotJudged.TheVariants as reasons
 use Rattle.bgp_check.specs.declared.peer_as.PeerAs.{PeerAs}
 use Rattle.bgp_check.specs.declared.peer_as.PeerAs.TheVariants as peers
+use Rattle.bgp_why.specs.Place.{place_text}
+use Rattle.bgp_why.specs.State.{as_text}
+use Rattle.bgp_why.specs.declared.place.Place.{Place}
+use Rattle.bgp_check_text.specs.End.{end_text}
+use Rattle.bgp_check_text.specs.States.{routes_if, states_text}
+use Rattle.bgp_check_text.specs.declared.end.EndName.{EndName}
 
--- the state with this number (RFC 6396, 4.4.1)
-abbrev pub state_name : ℕ → List ℕ
-state_name number =
-    if number == 1 then codes "Idle"
-    else if number == 2 then codes "Connect"
-    else if number == 3 then codes "Active"
-    else if number == 4 then codes "OpenSent"
-    else if number == 5 then codes "OpenConfirm"
-    else codes "Established"
+-- ---- an end that isn't judged, and why
 
--- families, by whether IPv4 and IPv6 are among them; a dash for none
-abbrev pub families_by : Bool → Bool → List ℕ
-families_by false false = codes "-"
-families_by true false = codes "v4"
-families_by false true = codes "v6"
-families_by true true = codes "v4,v6"
-
-abbrev pub families_name : Families → List ℕ
-families_name families = families_by families.v4 families.v6
-
--- why an end isn't judged
 abbrev pub why_text : NotJudged → List ℕ
-why_text reasons.NothingSent = codes "no sent message"
-why_text reasons.ExtendedParameters = codes "an OPEN has parameters of RFC 9072"
-why_text reasons.NoFamily = codes "its OPEN offers neither v4 nor v6"
-why_text reasons.DynamicCapabilities = codes "both OPENs offer dynamic capabilities"
-why_text reasons.Confederations = codes "an AS_PATH has confederation segments"
+why_text reasons.NothingSent = codes "the file has no message that it sent"
+why_text reasons.ExtendedParameters =
+    codes "an OPEN has extended parameters (RFC 9072), which are not judged"
+why_text reasons.NoFamily = codes "its OPEN offers neither IPv4 nor IPv6 unicast"
+why_text reasons.DynamicCapabilities =
+    codes "both OPENs offer dynamic capabilities, which are not judged"
+why_text reasons.Confederations =
+    codes "an AS_PATH has confederation segments (RFC 5065), which are not judged"
 
--- ---- whose verdict it is, and for which peer
-
-abbrev pub as_text : Option ℕ → List ℕ
-as_text None = codes " without OPEN"
-as_text (Some number) = codes " as " ++ decimal number
-
-abbrev pub peer_text : PeerAs → List ℕ
-peer_text peers.Any = codes "any"
-peer_text (peers.Is number) = decimal number
-peer_text (peers.OtherThan number) = codes "other than " ++ decimal number
+unfoldable pub not_judged_line : EndName → NotJudged → List ℕ
+not_judged_line name why =
+    codes "not judged: " ++ (end_text name ++ (codes ": " ++ (why_text why ++ codes "\n")))
 
 -- ---- a yes
 
-abbrev pub reached_text : ℕ → ℕ → List ℕ
-reached_text last highest =
-    if nat_lt last highest then codes " reached " ++ state_name highest else []
+-- for which peer the end has to be configured, unless it is the one whose OPEN was received
+abbrev pub peer_text : PeerAs → List ℕ
+peer_text peers.Any = codes ", with no readable OPEN from its peer"
+peer_text (peers.Is number) = []
+peer_text (peers.OtherThan number) =
+    codes ", if configured for a peer in another AS than " ++ as_text number
 
-unfoldable pub route_line : Destination × PathValue → List ℕ
-route_line route = codes "  route " ++ (route_text route.0 route.1 ++ codes "\n")
+unfoldable pub yes_line : EndName → PeerAs → ℕ → List End → List ℕ
+yes_line name peer highest ends =
+    codes "yes: " ++ (end_text name ++ (peer_text peer ++ (codes ": "
+    ++ (states_text highest ends ++ codes "\n"))))
 
-unfoldable pub ending_line : ℕ → End → List ℕ
-ending_line highest e =
-    codes "  end " ++ (state_name (number_of e.fsm) ++ (codes " disabled "
-    ++ (families_name e.routes.disabled ++ (codes " routes "
-    ++ (decimal (length e.routes.entries) ++ (reached_text (number_of e.fsm) highest
-    ++ codes "\n"))))))
+-- and the routes of its possible ends, if they are told
+abbrev pub yes_lines : Bool → EndName → PeerAs → ℕ → List End → List ℕ
+yes_lines routes name peer highest ends =
+    yes_line name peer highest ends ++ routes_if routes highest ends
 
--- a possible end, of records that tell no higher state than this; and its routes, if they are told
-abbrev pub ending_text : Bool → ℕ → End → List ℕ
-ending_text routes highest e =
-    ending_line highest e ++ (if routes then flat_map route_line e.routes.entries else [])
+-- ---- a no, and what is unfinished
 
--- ---- a no
+-- a record's place, and its time
+unfoldable pub place_when : Place → List ℕ
+place_when place =
+    place_text place ++ (codes ", " ++ (when_text place.second place.micro ++ codes " UTC: "))
 
-abbrev pub packet_text : Option ℕ → List ℕ
-packet_text None = []
-packet_text (Some packet) = codes ", packet " ++ decimal packet
+-- what was done, if that can be said
+abbrev pub deed_if : List ℕ → List ℕ
+deed_if [] = []
+deed_if (x ∷ deed) = codes " " ++ (x ∷ deed)
 
--- the record after so many, and the packet that shows it, if one does
-unfoldable pub no_text : ℕ → Option ℕ → List ℕ
-no_text count packet =
-    codes "no at record " ++ (decimal (count + 1) ++ packet_text packet)
+unfoldable pub no_line : Place → EndName → List ℕ → List ℕ
+no_line place name deed =
+    codes "no at " ++ (place_when place ++ (end_text name ++ (deed_if deed ++ codes "\n")))
+
+unfoldable pub unfinished_line : Place → EndName → List ℕ
+unfinished_line place name =
+    codes "unfinished after " ++ (place_when place ++ (end_text name
+    ++ codes " has not done what is due\n"))

@@ -1,4 +1,4 @@
-//! The line that tells how `bgp judge` is asked for a verdict.
+//! The line with the `bgp judge` command that reproduces a verdict.
 
 ghost use Rattle.std.specs.Prelude.{◌≡◌, option_map};
 ghost use Rattle.bgp_text.specs.Lines.{Writes};
@@ -9,9 +9,9 @@ ghost use Rattle.bgp_check_text.specs.JudgeLine.{refresh_text};
 
 use crate::options::{Asked, JudgeOptions};
 use bgp_open::{Config, Families, RouteOffer};
-use bgp_parts_text::put_offer;
 use bgp_prefix::Session;
 use bgp_text::{Lines, put_address};
+use bgp_why_parts::put_offer;
 use itoa::Integer;
 use mrt::Sink;
 
@@ -133,16 +133,16 @@ fn put_asked<W: Sink>(lines: &mut Lines<'_, W>, asked: &Asked)
     put_number(lines, b" --within ", asked.within);
 }
 
-/// Puts the line that tells how `bgp judge` is asked for a verdict, set in by two blanks: `judge`
-/// and the options, without the file.
+/// Puts the command that reproduces a verdict: `repeat: bgp judge OPTIONS FILE`, with `FILE` for
+/// the file's name.
 pub fn put_judge_line<W: Sink>(lines: &mut Lines<'_, W>, options: &JudgeOptions)
     ensures { Writes lines.old lines.new (judge_line options.now) }
 {
-    lines.put(b"  judge");
+    lines.put(b"  repeat: bgp judge");
     put_needs(lines, &options.config);
     put_addresses(lines, &options.config.parts.session);
     put_choices(lines, &options.config);
     put_refresh(lines, options);
     put_asked(lines, &options.asked);
-    lines.put(b"\n");
+    lines.put(b" FILE\n");
 }

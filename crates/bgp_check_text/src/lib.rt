@@ -6,13 +6,12 @@
 //! verdict holds, in the style of `check`.
 //!
 //! ```text
-//! put_no(&mut lines, count, packet);
-//! put_as(&mut lines, number);
-//! put_peer(&mut lines, peer);
-//!
 //! let places = Places::Shown(&entries);
 //! let reason =
-//!     reason_of::<A, CompactTracker<A>>(alloc, sent, places, &records, &answer)?;
+//!     reason_of::<A, CompactTracker<A>>(alloc, sent, first, &peer, places, &records, &answer)?;
+//!
+//! let name = EndName { end, as_number, part: None };
+//! put_no(&mut lines, &place, &name, reason.deed());
 //! put_reason(&mut lines, &reason);
 //!
 //! let asked = asked_of(179, 10, &session, &connections, opening, side);
@@ -26,7 +25,9 @@
 //! ```
 #![tactic(auto)]
 
+mod as_number;
 mod asking;
+mod end;
 mod explained;
 mod framed_alike;
 mod highest;
@@ -38,22 +39,27 @@ mod options;
 mod own_faults;
 mod read_alike;
 mod reason;
+mod sending;
 mod settings;
 mod shown;
+mod states;
 mod tally;
 mod unshown;
 
+pub use as_number::sent_as_number;
 pub use asking::asked_of;
+pub use end::{EndName, put_end, put_part_end};
 pub use framed_alike::are_framed_alike;
 pub use highest::highest_state;
 pub use judge_line::put_judge_line;
 pub use laws::{a_capture_is_read_alike, records_are_framed_alike};
-pub use lines::{put_as, put_endings, put_no, put_peer, put_why};
+pub use lines::{put_no, put_not_judged, put_unfinished, put_why, put_yes};
 pub use of_capture::capture_options;
 pub use options::{Asked, JudgeOptions};
 pub use own_faults::told_configuration;
 pub use read_alike::judge_options;
-pub use reason::{Reason, put_reason, reason_of};
+pub use reason::{Reason, put_deed, put_reason, reason_of};
+pub use sending::{sent_deed, sent_form};
 pub use settings::{Settings, is_no_yes};
 pub use tally::Tally;
 pub use unshown::{put_passed_over, put_unshown};

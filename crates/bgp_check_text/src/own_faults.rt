@@ -10,7 +10,7 @@ ghost use Rattle.bgp_check_text.specs.OwnFaults.{AreOwnFaults, IsToldConfigurati
 
 use bgp_check::{Judged, OwnFault, has_own_fault, own_open};
 use bgp_open::{Config, read_open};
-use bgp_reason_text::OwnFaults;
+use bgp_why::OwnFaults;
 use mrt::Record;
 use std::alloc::Allocator;
 

@@ -9,57 +9,113 @@ ghost use Rattle.bgp_parts.specs.Opens.{HasOwnOpen};
 ghost use Rattle.bgp_explain.specs.Places.{places_of};
 ghost use Rattle.bgp_text.specs.Lines.{Writes};
 ghost use Rattle.bgp_check_text.specs.Reason.{AreFaultsAt, IsReasonOf, IsReasonTo, IsToldAs};
-ghost use Rattle.bgp_check_text.specs.Reason.{is_of_another, reason_text, style_of};
+ghost use Rattle.bgp_check_text.specs.Reason.{another_of, are_shown, deed_text, is_of_another};
+ghost use Rattle.bgp_check_text.specs.Reason.{lines_text, style_of};
 
-use crate::explained::said_of;
+use crate::explained::{Telling, said_of};
 use crate::own_faults::own_faults_of;
 use bgp_check::{Answer, Judged, PeerAs, a_verdict_holds_under_its_configuration, own_open};
 use bgp_explain::Places;
 use bgp_judge::{Tracker, Verdict};
-use bgp_reason_text::{OwnFaults, Style};
+use bgp_prefix::Seconds;
 use bgp_text::Lines;
+use bgp_why::{Endpoint, OwnFaults, Style};
 use bgp_wire::Limit;
 use mrt::{Record, Sink};
 use std::alloc::{AllocError, Allocator, Global};
 
-/// How many octets of a line are put at the most.
-const MOST: u8 = 200;
-
-/// The lines on why a verdict on an end is a no or unfinished; none after a yes.
+/// Why a verdict on an end is a no or unfinished; nothing after a yes.
 #[derive(Drop)]
 pub struct Reason<A: Allocator = Global> {
-    text: Vec<u8, A>,
+    /// What the impossible record of a no shows was done, and what is wrong with it.
+    pub(crate) deed: Vec<u8, A>,
+    /// The lines after that.
+    pub(crate) lines: Vec<u8, A>,
 }
 
-impl<A: Allocator> Reason<A> {
-    /// No reason.
-    fn nothing(alloc: A) -> Reason<A>
-        ensures { reason_text result ≡ [] }
+impl<A: Allocator + Copy> Reason<A> {
+    /// Returns no reason.
+    pub(crate) fn nothing(alloc: A) -> Reason<A>
+        ensures deed { deed_text result ≡ [] }
+        ensures lines { lines_text result ≡ [] }
     {
         Reason {
-            text: Vec::new(alloc),
+            deed: Vec::new(alloc),
+            lines: Vec::new(alloc),
         }
     }
 }
 
-/// Whether a peer has to have another AS number than its OPEN says.
+impl<A: Allocator> Reason<A> {
+    /// Returns what the impossible record of a no shows was done, and what is wrong with it: `sent
+    /// UPDATE to 192.0.2.1:179, not allowed here`.
+    pub fn deed(&self) -> &[u8]
+        ensures { result.now ≡ deed_text self.now }
+    {
+        self.deed.as_slice()
+    }
+
+    /// Returns the lines after that.
+    pub fn lines(&self) -> &[u8]
+        ensures { result.now ≡ lines_text self.now }
+    {
+        self.lines.as_slice()
+    }
+}
+
+/// Checks whether a peer has to have another AS number than its OPEN says.
 fn is_of_another(peer: PeerAs) -> bool
     ensures { result ≡ is_of_another peer }
 {
     matches!(peer, PeerAs::OtherThan(_))
 }
 
-/// The style in which a reason is told of an end with such a peer, and with these own faults, if it
-/// has some.
-fn style_of(peer: PeerAs, own_faults: Option<OwnFaults>) -> Style
-    ensures { result ≡ style_of peer own_faults }
+/// Returns the AS number that a peer doesn't have, if it has any other one.
+fn another_of(peer: PeerAs) -> Option<u32>
+    ensures { result ≡ another_of peer }
+{
+    match peer {
+        PeerAs::OtherThan(number) => Some(number),
+        PeerAs::Any | PeerAs::Is(_) => None,
+    }
+}
+
+/// Checks whether packets show the records.
+fn are_shown(places: Places<'_>) -> bool
+    ensures { result ≡ are_shown places.entry }
+{
+    matches!(places, Places::Shown(_))
+}
+
+/// Returns the style in which a reason is told of an end with such a peer, and with these own
+/// faults, if it has some.
+fn style_of(
+    first: Seconds,
+    is_recording: bool,
+    peer: PeerAs,
+    own_faults: Option<OwnFaults>,
+) -> Style
+    ensures { result ≡ style_of first is_recording peer own_faults }
 {
     Style {
-        is_indented: true,
-        most: Some(MOST),
+        first,
+        is_recording,
         peer_as_is_free: is_of_another(peer),
         own_faults,
     }
+}
+
+/// How an end's reason is told, but for what the verdict says.
+#[derive(Clone, Copy)]
+struct Asking<'a> {
+    /// The limit of messages that were sent.
+    sent: Limit,
+    /// The second of the session's first record.
+    first: Seconds,
+    /// The peer.
+    peer: Endpoint,
+    /// Where the records stand.
+    places: Places<'a>,
 }
 
 /// The own faults of the first OPEN that these records show as sent, up to the one after so many.
@@ -77,27 +133,31 @@ fn own_faults_at(records: &[Record<'_>], number: Option<u32>, count: u64) -> Opt
 /// Explains a verdict that isn't yes.
 fn explained<A: Allocator + Copy, T: Tracker<A>>(
     alloc: A,
-    sent: Limit,
-    places: Places<'_>,
+    asking: &Asking<'_>,
     records: &[Record<'_>],
     judged: &Judged<A>,
     own_faults: Option<OwnFaults>,
 ) -> Result<Reason<A>, AllocError>
-    ensures { (session : TheSession) → IfOk result (λ reason. IsToldAs session sent
-        (places_of places.entry) (map shown_of records.now) judged.now.peer_as judged.now.under
-        own_faults (reason_text reason)) }
+    ensures { (session : TheSession) → IfOk result (λ reason. IsToldAs session asking.now.sent
+        asking.now.first (are_shown asking.now.places) asking.now.peer
+        (places_of asking.now.places) (map shown_of records.now) judged.now.peer_as
+        judged.now.under own_faults (deed_text reason) (lines_text reason)) }
 {
-    let style = style_of(judged.peer_as, own_faults);
-    Ok(Reason {
-        text: said_of::<A, T>(alloc, &judged.under, &style, sent, places, records)?,
-    })
+    let (first, places) = (asking.first, asking.places);
+    let telling = Telling {
+        style: style_of(first, are_shown(places), judged.peer_as, own_faults),
+        sent: asking.sent,
+        peer: asking.peer,
+        another: another_of(judged.peer_as),
+        places,
+    };
+    Ok(said_of::<A, T>(alloc, &judged.under, &telling, records)?)
 }
 
 /// Explains the verdict on an end's records, unless it is yes.
 fn reason_for<A: Allocator + Copy, T: Tracker<A>>(
     alloc: A,
-    sent: Limit,
-    places: Places<'_>,
+    asking: &Asking<'_>,
     records: &[Record<'_>],
     judged: &Judged<A>,
 ) -> Result<Reason<A>, AllocError>
@@ -107,30 +167,33 @@ fn reason_for<A: Allocator + Copy, T: Tracker<A>>(
     ensures { (session : TheSession) → IsJudged session (map shown_of records.now)
         judged.now.as_number judged.now.peer_as judged.now.under
         (verdict_value judged.now.verdict)
-        → IfOk result (λ reason. IsReasonOf session sent (places_of places.entry)
+        → IfOk result (λ reason. IsReasonOf session asking.now.sent asking.now.first
+        (are_shown asking.now.places) asking.now.peer (places_of asking.now.places)
         (map shown_of records.now) judged.now.peer_as judged.now.under
-        (verdict_value judged.now.verdict) (reason_text reason)) }
+        (verdict_value judged.now.verdict) (deed_text reason) (lines_text reason)) }
 {
     a_verdict_holds_under_its_configuration();
     match &judged.verdict {
         Verdict::Yes(_) => Ok(Reason::nothing(alloc)),
         Verdict::No(count) => {
             let faults = own_faults_at(records, judged.as_number, *count);
-            explained::<A, T>(alloc, sent, places, records, judged, faults)
+            explained::<A, T>(alloc, asking, records, judged, faults)
         }
-        Verdict::Unfinished => explained::<A, T>(alloc, sent, places, records, judged, None),
+        Verdict::Unfinished => explained::<A, T>(alloc, asking, records, judged, None),
     }
 }
 
-/// Why the verdict on an end's records is a no or unfinished, by what is answered of them: what
-/// `bgp judge --explain` says of them under the configuration under which the verdict is told, each
-/// with its place, but that the line of a message that was sent goes by this limit, that of its
-/// receiver. Of a yes, and of an end that isn't judged, it is nothing.
+/// Returns why the verdict on an end's records is a no or unfinished: what `bgp judge --explain`
+/// says of them under the configuration under which the verdict is told, each with its place. The
+/// text of a message that was sent goes by the limit of its receiver. The session's first record
+/// has that second. After a yes, and of an end that isn't judged, it is nothing.
 ///
-/// `AllocError` is answered where memory is refused.
+/// `AllocError` is answered if memory runs out.
 pub fn reason_of<A: Allocator + Copy, T: Tracker<A>>(
     alloc: A,
     sent: Limit,
+    first: Seconds,
+    peer: &Endpoint,
     places: Places<'_>,
     records: &[Record<'_>],
     answer: &Answer<A>,
@@ -139,18 +202,32 @@ pub fn reason_of<A: Allocator + Copy, T: Tracker<A>>(
         × IsAnswerTo session (map shown_of records.now) (answer_value answer.now) }
     ensures { (session : TheSession)
         → IsAnswerTo session (map shown_of records.now) (answer_value answer.now)
-        → IfOk result (λ reason. IsReasonTo session sent (places_of places.entry)
-        (map shown_of records.now) (answer_value answer.now) (reason_text reason)) }
+        → IfOk result (λ reason. IsReasonTo session sent first (are_shown places.entry) peer.now
+        (places_of places.entry) (map shown_of records.now) (answer_value answer.now)
+        (deed_text reason) (lines_text reason)) }
 {
+    let asking = Asking {
+        sent,
+        first,
+        peer: *peer,
+        places,
+    };
     match answer {
         Answer::NotJudged(_) => Ok(Reason::nothing(alloc)),
-        Answer::Judged(judged) => reason_for::<A, T>(alloc, sent, places, records, judged),
+        Answer::Judged(judged) => reason_for::<A, T>(alloc, &asking, records, judged),
     }
 }
 
-/// Puts the lines of a reason.
-pub fn put_reason<W: Sink, A: Allocator>(lines: &mut Lines<'_, W>, reason: &Reason<A>)
-    ensures { Writes lines.old lines.new (reason_text reason.now) }
+/// Puts what the impossible record of a no shows was done, and what is wrong with it.
+pub fn put_deed<W: Sink, A: Allocator>(lines: &mut Lines<'_, W>, reason: &Reason<A>)
+    ensures { Writes lines.old lines.new (deed_text reason.now) }
 {
-    lines.put(reason.text.as_slice());
+    lines.put(reason.deed.as_slice());
+}
+
+/// Puts the lines after that.
+pub fn put_reason<W: Sink, A: Allocator>(lines: &mut Lines<'_, W>, reason: &Reason<A>)
+    ensures { Writes lines.old lines.new (lines_text reason.now) }
+{
+    lines.put(reason.lines.as_slice());
 }

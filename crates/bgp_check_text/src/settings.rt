@@ -1,4 +1,4 @@
-//! After which verdicts the options of `bgp judge` are told.
+//! Whether the `bgp judge` command is told that reproduces a verdict.
 
 ghost use Rattle.std.specs.Prelude.{◌≡◌};
 ghost use Rattle.bgp_judge.specs.Verdict.{verdict_value};
@@ -7,14 +7,12 @@ ghost use Rattle.bgp_check_text.specs.Settings.{are_told, is_no_yes, where_refus
 use bgp_judge::Verdict;
 use std::alloc::Allocator;
 
-/// After which verdicts the options are told with which `bgp judge` gives them, where it does.
+/// Whether the `bgp judge` command is told that reproduces a verdict, if there is one.
 #[derive(Clone, Copy, Debug)]
 pub enum Settings {
-    /// After none: `bgp judge` wouldn't give them.
+    /// It isn't told.
     Never,
-    /// After a no and an unfinished.
-    UnlessYes,
-    /// After each.
+    /// It is told after each verdict.
     Always,
 }
 
@@ -29,18 +27,17 @@ pub fn is_no_yes<A: Allocator>(verdict: &Verdict<A>) -> bool
 }
 
 impl Settings {
-    /// Whether they are told after a verdict.
-    pub fn are_told<A: Allocator>(self, verdict: &Verdict<A>) -> bool
-        ensures { result ≡ are_told self (verdict_value verdict.now) }
+    /// Whether they are told.
+    pub fn are_told(self) -> bool
+        ensures { result ≡ are_told self }
     {
         match self {
             Settings::Never => false,
-            Settings::UnlessYes => is_no_yes(verdict),
             Settings::Always => true,
         }
     }
 
-    /// These, but after no verdict of a file or a session that is refused.
+    /// Returns these; or that it isn't told, for a file or a session that is refused.
     pub fn where_refused(self, is_refused: bool) -> Settings
         ensures { result ≡ where_refused is_refused self }
     {

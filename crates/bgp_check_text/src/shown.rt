@@ -36,7 +36,7 @@ fn is_message_allowed(session: &Session, octets: &[u8]) -> bool
 }
 
 /// Whether it can hold a record.
-fn is_allowed(session: &Session, shown: &Record<'_>) -> bool
+pub(crate) fn is_allowed(session: &Session, shown: &Record<'_>) -> bool
     ensures { IsTrue result ↔ IsAllowed session.now None (shown_of shown.now) }
 {
     match *shown {
@@ -53,7 +53,7 @@ fn is_extended(limit: Limit) -> bool
 }
 
 /// The session as of which a record is told: a message that was sent goes by this limit.
-fn session_for(session: &Session, sent: Limit, shown: &Record<'_>) -> Session
+pub(crate) fn session_for(session: &Session, sent: Limit, shown: &Record<'_>) -> Session
     ensures { result ≡ session_for session.now sent (shown_of shown.now) }
 {
     match *shown {

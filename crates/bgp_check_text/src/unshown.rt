@@ -9,14 +9,14 @@ use bgp_recording::{Rest, Unshown};
 use bgp_text::Lines;
 use mrt::Sink;
 
-/// How many ROUTE-REFRESH messages of a direction are passed over, where some are.
+/// How many ROUTE-REFRESH messages of a direction aren't judged, if some aren't.
 fn put_passed<W: Sink>(lines: &mut Lines<'_, W>, way: &[u8], count: usize)
     ensures { Writes lines.old lines.new (passed_note way.now count) }
 {
     if 0 < count {
-        lines.put(b"  note ");
+        lines.put(b"  note: ROUTE-REFRESH messages ");
         lines.put(way);
-        lines.put(b" ROUTE-REFRESH messages passed over: ");
+        lines.put(b", not judged: ");
         lines.put_decimal(count);
         lines.put(b"\n");
     } else {
@@ -24,8 +24,8 @@ fn put_passed<W: Sink>(lines: &mut Lines<'_, W>, way: &[u8], count: usize)
     }
 }
 
-/// Puts how many ROUTE-REFRESH messages (RFC 2918) are passed over of those that were received, and
-/// of those that were sent, where some are.
+/// Puts how many ROUTE-REFRESH messages (RFC 2918) aren't judged: of those that were received, and
+/// of those that were sent.
 pub fn put_passed_over<W: Sink>(lines: &mut Lines<'_, W>, received: usize, sent: usize)
     ensures { Writes lines.old lines.new (passed_notes received sent) }
 {
@@ -33,16 +33,16 @@ pub fn put_passed_over<W: Sink>(lines: &mut Lines<'_, W>, received: usize, sent:
     put_passed(lines, b"sent", sent);
 }
 
-/// That the last octets of a direction are no whole message, where some are.
+/// That the last message of a direction is incomplete, if it is.
 fn put_short<W: Sink>(lines: &mut Lines<'_, W>, way: &[u8], count: usize)
     ensures { Writes lines.old lines.new (short_note way.now count) }
 {
     if 0 < count {
-        lines.put(b"  note ");
+        lines.put(b"  note: octets ");
         lines.put(way);
-        lines.put(b": the last ");
+        lines.put(b" of an incomplete last message: ");
         lines.put_decimal(count);
-        lines.put(b" octets are no whole message\n");
+        lines.put(b"\n");
     } else {
         lines.put(b"");
     }
@@ -59,7 +59,7 @@ fn end_name(is_refresh: bool) -> &'static [u8]
     }
 }
 
-/// That octets of a direction after a faulty header aren't read, where there are some.
+/// That octets of a direction after a faulty header aren't read, if there are some.
 fn put_behind<W: Sink>(
     lines: &mut Lines<'_, W>,
     way: &[u8],
@@ -70,21 +70,21 @@ fn put_behind<W: Sink>(
     ensures { Writes lines.old lines.new (behind_note way.now place count is_refresh) }
 {
     if 0 < count {
-        lines.put(b"  note ");
+        lines.put(b"  note: octets ");
         lines.put(way);
-        lines.put(b": ");
-        lines.put_decimal(count);
-        lines.put(b" octets behind the ");
+        lines.put(b" after the ");
         lines.put(end_name(is_refresh));
         lines.put(b" at octet ");
         lines.put_decimal(place);
-        lines.put(b" are not read\n");
+        lines.put(b", not read: ");
+        lines.put_decimal(count);
+        lines.put(b"\n");
     } else {
         lines.put(b"");
     }
 }
 
-/// What is left of a direction's octets, where something is.
+/// What is left of a direction's octets, if something is.
 fn put_rest<W: Sink>(lines: &mut Lines<'_, W>, way: &[u8], rest: Rest)
     ensures { Writes lines.old lines.new (rest_note way.now rest) }
 {
@@ -98,9 +98,9 @@ fn put_rest<W: Sink>(lines: &mut Lines<'_, W>, way: &[u8], rest: Rest)
     }
 }
 
-/// Puts what of the octets of both directions is in no message that is judged, where something is:
-/// how many ROUTE-REFRESH messages are passed over, and then what is left of those that were
-/// received, and of those that were sent.
+/// Puts what of the octets of both directions is in no message that is judged: how many
+/// ROUTE-REFRESH messages aren't judged, and then how many octets received, and how many sent, are
+/// of an incomplete message or come after a fault.
 pub fn put_unshown<W: Sink>(lines: &mut Lines<'_, W>, received: Unshown, sent: Unshown)
     ensures { Writes lines.old lines.new (unshown_notes received sent) }
 {

@@ -1,15 +1,14 @@
 -- The list of a recording is what is printed of it without the lines of its ends.
-use Rattle.std.proofs.Common.{◌≡◌, ◌∙◌, ◌++◌, ℕ, Bool, List, [], ◌∷◌, codes, inl, inr, refl, sym, ap, append_assoc, append-nil, subst}
+use Rattle.std.proofs.Common.{◌≡◌, ◌∙◌, ◌++◌, ℕ, Bool, List, [], ◌∷◌, inl, inr, refl, sym, ap, append-nil, subst}
 use Rattle.std.specs.List.{AllByRecursion, Contains, flat_map}
 use Rattle.std.specs.List.Sorted.{IsStrictlySortedBy}
 use Rattle.std.specs.Map.{keys_of}
 use Rattle.std.specs.Ordering.{nat_cmp}
 use Rattle.packets.specs.Packet.{Recorded}
-use Rattle.bgp_import.specs.ListText.{octets_text, opening_text, refused_text}
 use Rattle.bgp_list.specs.Lines.{IsLineAt, line_text}
 use Rattle.bgp_list.specs.declared.line.Line.{Line}
 use Rattle.bgp_check_tool.specs.declared.options.CheckOptions.{CheckOptions}
-use Rattle.bgp_check_tool.specs.Blocks.{AllRefused, Block, BothEnds, OneEnd, Refused, block_text, neither_text, session_text, turned_down_text}
+use Rattle.bgp_check_tool.specs.Blocks.{AllRefused, Block, BothEnds, OneEnd, Refused, block_text}
 use Rattle.bgp_check_tool.specs.Checking.{blocks_text}
 use Rattle.bgp_list.specs.Recording.{lines_text}
 use Rattle.bgp_import.specs.Places.{HasAll}
@@ -19,16 +18,9 @@ use Rattle.bgp_check_tool.proofs.OneList.{one_list}
 
 -- ---- the text
 
-behind : (x y z n ends : List ℕ) → x ++ (y ++ (z ++ (n ++ ends))) ≡ (x ++ (y ++ (z ++ n))) ++ ends
-behind x y z n ends =
-    sym (append_assoc x (y ++ (z ++ n)) ends ∙ ap (λ (o : List ℕ). x ++ o) (append_assoc y (z ++ n) ends ∙ ap (λ (o : List ℕ). y ++ o) (append_assoc z n ends)))
-
 one_text : (routes : Bool) (block : Block) → block_text routes block ≡ line_text (heading block) ++ end_lines routes block
-unfolding neither_text octets_text turned_down_text refused_text session_text
-one_text routes (BothEnds session opening first second opener other) =
-    behind (opening_text session opening) (codes " ") (octets_text first second) (codes "\n") (end_lines routes (BothEnds session opening first second opener other))
-one_text routes (OneEnd session opening first second) =
-    behind (opening_text session opening) (codes " ") (octets_text first second) (codes "\n") (end_lines routes (OneEnd session opening first second))
+one_text routes (BothEnds session opening first second opener other) = refl
+one_text routes (OneEnd session opening first second) = refl
 one_text routes (Refused session opening refusal) = sym (append-nil (line_text (heading (Refused session opening refusal))))
 one_text routes (AllRefused addresses refusal) = sym (append-nil (line_text (heading (AllRefused addresses refusal))))
 

@@ -224,10 +224,10 @@ any P (x ∷ xs) (inr later) = any P xs later
 -- ---- what follows
 
 pub unexplained_by_all : WidestBegins → WithoutBegins → WidestAreMade → SentOpenIsOwn → UnexplainedByAll
-unexplained_by_all enough without made sent session within framings connection unexplained un =
+unexplained_by_all enough without made sent session within framings connection found un =
     let over = un.over in
     let records = records_sent over.exchange.sent.now in
-    let before = unexplained.before in
+    let before = found.unexplained.before in
     let configs = configurations_of over.widest in
     let of_own : (own : Option (List ℕ)) → HasOwnOpen records own → IsFaultless own → AreWidest session own over.peers configs = λ own has faultless.
     subst (λ (o : Option (List ℕ)). AreWidest session o over.peers configs) (one_own records over.own own over.has_own has)
@@ -236,7 +236,7 @@ unexplained_by_all enough without made sent session within framings connection u
     record {
       exchange = over.exchange;
       tells = over.tells;
-      is_packet = un.is_packet;
+      is_packet = un.is_message.is_packet;
       none = λ own config has of explained.
           none_has (λ c. IsExplained c within over.exchange (before + 1)) configs over.is_told.best
           (some_widest enough without session within over.exchange own over.peers configs config (before + 1) (of_own own has (is_faultless session own records config has of)) has over.has_peers of explained);

@@ -1,6 +1,6 @@
 -- What the lines of an end are worth.
-use Rattle.std.proofs.Common.{◌≡◌, ◌∙◌, ◌+◌, ◌<◌, ◌++◌, ◌⊎◌, inl, inr, ℕ, zero, suc, Bool, List, [], ◌∷◌, Option, None, Some, codes, option_map, refl, reverse, sym, ap, append_assoc, subst, arith, length, take}
-use Rattle.std.specs.List.{AllByRecursion, flat_map, slice_get}
+use Rattle.std.proofs.Common.{◌≡◌, ◌∙◌, ◌<◌, ◌++◌, ◌⊎◌, inl, inr, ℕ, zero, suc, Bool, List, [], ◌∷◌, Option, None, Some, codes, refl, reverse, sym, ap, subst, arith, length, take}
+use Rattle.std.specs.List.{AllByRecursion, slice_get}
 use Rattle.packets.specs.Packet.{Recorded}
 use Rattle.bgp_prefix.specs.Shown.{ShownRecord}
 use Rattle.bgp_prefix.specs.declared.session.Session.{Session}
@@ -18,14 +18,14 @@ use Rattle.bgp_check.specs.declared.own_fault.OwnFault.{OwnFault}
 use Rattle.bgp_judge.specs.Verdict.{HasVerdict, No, Unfinished, VerdictValue, Yes}
 use Rattle.bgp_recording.specs.Captured.{records_of}
 use Rattle.bgp_recording.specs.declared.entry.Entry.{Entry}
-use Rattle.bgp_import.specs.ListText.{end_of, end_text, other_side}
+use Rattle.bgp_import.specs.ListText.{end_of, other_side}
 use Rattle.bgp_import.specs.declared.refusal.Refusal.{Refusal as WhyRefused}
 use Rattle.bgp_check.specs.Answered.{AnswerValue, HasFault, HasItsVerdict, IsAnswerTo, IsJudged, JudgedAs, NoConfigurationExplains, Unjudged}
 use Rattle.bgp_check.specs.declared.not_judged.NotJudged.{NotJudged}
 use Rattle.bgp_check.specs.declared.peer_as.PeerAs.{PeerAs}
-use Rattle.std.specs.Fmt.{decimal}
-use Rattle.bgp_check_text.specs.Text.{as_text, ending_text, no_text, packet_text, peer_text}
-use Rattle.bgp_check_text.specs.Unshown.{unshown_notes}
+use Rattle.bgp_check_text.specs.Text.{no_line, not_judged_line, unfinished_line, yes_line, yes_lines}
+use Rattle.bgp_check_text.specs.declared.end.EndName.{EndName}
+use Rattle.bgp_why.specs.declared.place.Place.{Place}
 use Rattle.bgp_parts.proofs.OneOwnOpen.{one_own}
 use Rattle.bgp_parts.specs.Opens.{HasOwnOpen}
 use Rattle.bgp_check_text.specs.Asked.{asked_of}
@@ -35,19 +35,19 @@ use Rattle.bgp_check_tool.specs.Blocks.{AllRefused, Block, BothEnds, OneEnd, Ref
 use Rattle.bgp_check_tool.specs.Another.{number_in}
 use Rattle.bgp_check_tool.specs.Another as Another
 use Rattle.bgp_check_tool.specs.Headline.{NoOrderHasARun, NoneIsWhole}
-use Rattle.bgp_check_tool.specs.Late.{late_text}
 use Rattle.bgp_check_tool.specs.Made.{IsMade}
 use Rattle.bgp_check_tool.specs.declared.another.Order.{Order}
 use Rattle.bgp_check_tool.specs.declared.another.Order.TheVariants as orders
-use Rattle.bgp_check_tool.specs.Judging.{judge_text, options_by}
+use Rattle.bgp_check_tool.specs.declared.orders.NoOrder.{NoOrder}
+use Rattle.bgp_check_tool.specs.Judging.{options_by}
+use Rattle.bgp_check_tool.specs.Place.{last_place, place_at, sent_place}
 use Rattle.bgp_check_tool.specs.Places.{IsToldAt, IsToldOfOne}
-use Rattle.bgp_check_tool.specs.Printed.{AreRecordsOf, AreRecordsOfAWay, BeginWith, HasRecords, HasRecordsIn, HasRecordsSo, HasTrueNoes, HasTrueUnfinished, HasTrueYes, HasVerdictIn, IsTrueNo, IsTrueOverall, NoesAreTrue, ToldNoesAreTrue, ToldUnfinishedAreTrue, ToldVerdictIsOverAll, ToldYesesAreTrue, UnfinishedAreTrue, YesesAreTrue}
-use Rattle.bgp_orders.specs.declared.connection.Unexplained.{Unexplained}
+use Rattle.bgp_check_tool.specs.Printed.{AreRecordsOf, AreRecordsOfAWay, HasRecords, HasRecordsIn, HasRecordsSo, HasTrueNoes, HasTrueUnfinished, HasTrueYes, HasVerdictIn, IsTrueNo, IsTrueOverall, NoesAreTrue, ToldNoesAreTrue, ToldUnfinishedAreTrue, ToldVerdictIsOverAll, ToldYesesAreTrue, UnfinishedAreTrue, YesesAreTrue}
 use Rattle.bgp_check_tool.specs.Seen.{seen_from, session_from}
-use Rattle.bgp_check_tool.specs.Text.{another_text, answer_text, not_judged_line, place_text, told_lines, unexplained_text, unfinished_text, verdict_text, whose_text}
-use Rattle.bgp_check_tool.specs.Told.{EndTold, IsEndTold, IsOfAll, IsOfAnother, IsOfMade, packet_of}
+use Rattle.bgp_check_tool.specs.Text.{after_no, after_unfinished, after_yes, answer_text, deed_by, name_of, name_with, told_lines}
+use Rattle.bgp_check_tool.specs.Told.{EndTold, IsEndTold, IsOfAll, IsOfAnother, IsOfMade, place_for, place_of}
 use Rattle.bgp_check_tool.proofs.NoOrder.{well_formed}
-use Rattle.bgp_check_tool.proofs.TellingEnd.{no_of_made, yes_of}
+use Rattle.bgp_check_tool.proofs.TellingEnd.{no_of_made, unfinished_of, yes_of}
 use Rattle.bgp_check_tool.proofs.Verdicts.{no_run, over_answer, side_told, verdict_is}
 
 -- ---- which lines begin with `no`
@@ -63,33 +63,6 @@ third (x ∷ []) = 0
 third (x ∷ y ∷ []) = 0
 third (x ∷ y ∷ z ∷ xs) = z
 
--- its seventh one, which tells `no at record` and `no at packet` apart
-seventh : List ℕ → ℕ
-seventh [] = 0
-seventh (a ∷ []) = 0
-seventh (a ∷ b ∷ []) = 0
-seventh (a ∷ b ∷ c ∷ []) = 0
-seventh (a ∷ b ∷ c ∷ d ∷ []) = 0
-seventh (a ∷ b ∷ c ∷ d ∷ e ∷ []) = 0
-seventh (a ∷ b ∷ c ∷ d ∷ e ∷ f ∷ []) = 0
-seventh (a ∷ b ∷ c ∷ d ∷ e ∷ f ∷ g ∷ xs) = g
-
-record_seventh : (rest : List ℕ) → seventh (codes "no at record " ++ rest) ≡ 114
-unfolding seventh
-record_seventh rest = refl
-
-packet_seventh : (rest : List ℕ) → seventh (codes "no at packet " ++ rest) ≡ 112
-unfolding seventh
-packet_seventh rest = refl
-
-no_text_seventh : (count : ℕ) (packet : Option ℕ) (rest : List ℕ) → seventh (no_text count packet ++ rest) ≡ 114
-unfolding seventh no_text
-no_text_seventh count packet rest = refl
-
-unexplained_seventh : (packet : ℕ) (rest : List ℕ) → seventh (unexplained_text packet ++ rest) ≡ 112
-unfolding seventh unexplained_text
-unexplained_seventh packet rest = refl
-
 -- it is a no
 record IsNo (answer : AnswerValue) : Type 0 where
   pub number : Option ℕ
@@ -98,9 +71,9 @@ record IsNo (answer : AnswerValue) : Type 0 where
   pub count : ℕ
   pub is : answer ≡ JudgedAs number peer under (No count)
 
-unjudged_third : (end : Endpoint) (why : NotJudged) → third (not_judged_line end why) ≡ 116
+unjudged_third : (name : EndName) (why : NotJudged) → third (not_judged_line name why) ≡ 116
 unfolding third not_judged_line
-unjudged_third end why = refl
+unjudged_third name why = refl
 
 no_third : (rest : List ℕ) → third (codes "no " ++ rest) ≡ 32
 unfolding third
@@ -118,14 +91,30 @@ unfinished_first : (rest : List ℕ) → first (codes "unfinished" ++ rest) ≡ 
 unfolding first
 unfinished_first rest = refl
 
+yes_line_first : (name : EndName) (peer : PeerAs) (highest : ℕ) (ends : List End) (routes rest : List ℕ) → first ((yes_line name peer highest ends ++ routes) ++ rest) ≡ 121
+unfolding first yes_line
+yes_line_first name peer highest ends routes rest = refl
+
+unfinished_line_first : (its : Place) (name : EndName) (rest : List ℕ) → first (unfinished_line its name ++ rest) ≡ 117
+unfolding first unfinished_line
+unfinished_line_first its name rest = refl
+
+no_line_first : (its : Place) (name : EndName) (deed rest : List ℕ) → first (no_line its name deed ++ rest) ≡ 110
+unfolding first no_line
+no_line_first its name deed rest = refl
+
+unjudged_first : (name : EndName) (why : NotJudged) → first (not_judged_line name why) ≡ 110
+unfolding first not_judged_line
+unjudged_first name why = refl
+
 no_by_text : (routes : Bool) (told : EndTold) (answer : AnswerValue) (rest : List ℕ) → answer_text routes told answer ≡ codes "no " ++ rest → IsNo answer
 no_by_text routes told (Unjudged why) rest is =
-    let differs : 116 ≡ 32 = sym (unjudged_third told.end why) ∙ ap third is ∙ no_third rest in absurd (omega (arith, differs))
+    let differs : 116 ≡ 32 = sym (unjudged_third (name_of told) why) ∙ ap third is ∙ no_third rest in absurd (omega (arith, differs))
 no_by_text routes told (JudgedAs number peer under (Yes ends)) rest is =
-    let differs : 121 ≡ 110 = sym (yes_first _) ∙ ap first is ∙ no_first rest in absurd (omega (arith, differs))
+    let differs : 121 ≡ 110 = sym (yes_line_first (name_of told) peer told.highest ends _ _) ∙ ap first is ∙ no_first rest in absurd (omega (arith, differs))
 no_by_text routes told (JudgedAs number peer under (No count)) rest is = record { number = number; peer = peer; under = under; count = count; is = refl }
 no_by_text routes told (JudgedAs number peer under Unfinished) rest is =
-    let differs : 117 ≡ 110 = sym (unfinished_first _) ∙ ap first is ∙ no_first rest in absurd (omega (arith, differs))
+    let differs : 117 ≡ 110 = sym (unfinished_line_first told.place (name_of told) _) ∙ ap first is ∙ no_first rest in absurd (omega (arith, differs))
 
 -- it is a yes
 record IsYes (answer : AnswerValue) : Type 0 where
@@ -135,38 +124,14 @@ record IsYes (answer : AnswerValue) : Type 0 where
   pub ends : List End
   pub is : answer ≡ JudgedAs number peer under (Yes ends)
 
-unjudged_first : (end : Endpoint) (why : NotJudged) → first (not_judged_line end why) ≡ 110
-unfolding first not_judged_line
-unjudged_first end why = refl
-
-no_text_first : (count : ℕ) (packet : Option ℕ) (rest : List ℕ) → first (no_text count packet ++ rest) ≡ 110
-unfolding first no_text
-no_text_first count packet rest = refl
-
-unexplained_first : (packet : ℕ) (rest : List ℕ) → first (unexplained_text packet ++ rest) ≡ 110
-unfolding first unexplained_text
-unexplained_first packet rest = refl
-
-place_first : (count : ℕ) (packet : Option ℕ) (found : Option Unexplained) (rest : List ℕ) → first (place_text count packet found ++ rest) ≡ 110
-place_first count packet None rest = no_text_first count packet rest
-place_first count packet (Some unexplained) rest = unexplained_first unexplained.packet rest
-
 yes_by_text : (routes : Bool) (told : EndTold) (answer : AnswerValue) (rest : List ℕ) → answer_text routes told answer ≡ codes "yes" ++ rest → IsYes answer
 yes_by_text routes told (Unjudged why) rest is =
-    let differs : 110 ≡ 121 = sym (unjudged_first told.end why) ∙ ap first is ∙ yes_first rest in absurd (omega (arith, differs))
+    let differs : 110 ≡ 121 = sym (unjudged_first (name_of told) why) ∙ ap first is ∙ yes_first rest in absurd (omega (arith, differs))
 yes_by_text routes told (JudgedAs number peer under (Yes ends)) rest is = record { number = number; peer = peer; under = under; ends = ends; is = refl }
 yes_by_text routes told (JudgedAs number peer under (No count)) rest is =
-    let differs : 110 ≡ 121 = sym (place_first count told.packet told.unexplained _) ∙ ap first is ∙ yes_first rest in absurd (omega (arith, differs))
+    let differs : 110 ≡ 121 = sym (no_line_first told.place (name_of told) (deed_by told.deed told.other) _) ∙ ap first is ∙ yes_first rest in absurd (omega (arith, differs))
 yes_by_text routes told (JudgedAs number peer under Unfinished) rest is =
-    let differs : 117 ≡ 121 = sym (unfinished_first _) ∙ ap first is ∙ yes_first rest in absurd (omega (arith, differs))
-
--- the text of one
-yes_text : Bool → EndTold → Endpoint → Option ℕ → PeerAs → List End → List ℕ
-yes_text routes told end number peer ends =
-    codes "yes" ++ (whose_text end number peer
-    ++ (flat_map (ending_text routes told.highest) ends
-    ++ (unshown_notes told.received told.sent
-    ++ (another_text told.order ++ judge_text told.judge))))
+    let differs : 117 ≡ 121 = sym (unfinished_line_first told.place (name_of told) _) ∙ ap first is ∙ yes_first rest in absurd (omega (arith, differs))
 
 -- it is unfinished
 record IsUnfinished (answer : AnswerValue) : Type 0 where
@@ -177,20 +142,23 @@ record IsUnfinished (answer : AnswerValue) : Type 0 where
 
 unfinished_by_text : (routes : Bool) (told : EndTold) (answer : AnswerValue) (rest : List ℕ) → answer_text routes told answer ≡ codes "unfinished" ++ rest → IsUnfinished answer
 unfinished_by_text routes told (Unjudged why) rest is =
-    let differs : 110 ≡ 117 = sym (unjudged_first told.end why) ∙ ap first is ∙ unfinished_first rest in absurd (omega (arith, differs))
+    let differs : 110 ≡ 117 = sym (unjudged_first (name_of told) why) ∙ ap first is ∙ unfinished_first rest in absurd (omega (arith, differs))
 unfinished_by_text routes told (JudgedAs number peer under (Yes ends)) rest is =
-    let differs : 121 ≡ 117 = sym (yes_first _) ∙ ap first is ∙ unfinished_first rest in absurd (omega (arith, differs))
+    let differs : 121 ≡ 117 = sym (yes_line_first (name_of told) peer told.highest ends _ _) ∙ ap first is ∙ unfinished_first rest in absurd (omega (arith, differs))
 unfinished_by_text routes told (JudgedAs number peer under (No count)) rest is =
-    let differs : 110 ≡ 117 = sym (place_first count told.packet told.unexplained _) ∙ ap first is ∙ unfinished_first rest in absurd (omega (arith, differs))
+    let differs : 110 ≡ 117 = sym (no_line_first told.place (name_of told) (deed_by told.deed told.other) _) ∙ ap first is ∙ unfinished_first rest in absurd (omega (arith, differs))
 unfinished_by_text routes told (JudgedAs number peer under Unfinished) rest is = record { number = number; peer = peer; under = under; is = refl }
 
--- the text of one
-unfinished_lines : EndTold → Endpoint → Option ℕ → PeerAs → List ℕ
-unfinished_lines told end number peer =
-    codes "unfinished" ++ (whose_text end number peer
-    ++ (told.reason ++ (unshown_notes told.received told.sent
-    ++ (unfinished_text told.order told.put_off
-    ++ (late_text told.within told.late ++ judge_text told.judge)))))
+-- ---- their texts, of an end at a place
+
+no_lines : EndTold → Place → Endpoint → List ℕ
+no_lines told its end = no_line its (name_with end told.as_number) (deed_by told.deed told.other) ++ after_no told
+
+yes_text : Bool → EndTold → Endpoint → PeerAs → List End → List ℕ
+yes_text routes told end peer ends = yes_lines routes (name_with end told.as_number) peer told.highest ends ++ after_yes told
+
+unfinished_lines : EndTold → Place → Endpoint → List ℕ
+unfinished_lines told its end = unfinished_line its (name_with end told.as_number) ++ after_unfinished told
 
 -- where a run shows it the OPEN has no own fault
 faultless_by : (own : Option (List ℕ)) (records : List ShownRecord) → HasOwnOpen records own → ((fault : OwnFault) → HasFault own fault → ⊥) → IsFaultless own
@@ -210,62 +178,14 @@ stands_at (entry ∷ entries) (suc count) within =
     let later = stands_at entries count (omega (arith, within)) in
     record { impossible = later.impossible; is = later.is }
 
--- the text of a no begins with its place, and then the end
-record Names (text place : List ℕ) (end : Endpoint) : Type 0 where
-  pub rest : List ℕ
-  pub named : text ≡ place ++ (codes ": " ++ (end_text end ++ rest))
+-- a message is found that no order explains, or none
+record IsFound (its : Option NoOrder) : Type 0 where
+  pub found : NoOrder
+  pub is : its ≡ Some found
 
-names : (place : List ℕ) (end : Endpoint) (number : Option ℕ) (peer : PeerAs) (rest : List ℕ) → Names (place ++ (whose_text end number peer ++ rest)) place end
-unfolding whose_text
-names place end number peer rest =
-    let tail = as_text number ++ (codes ", peer as " ++ (peer_text peer ++ codes "\n")) in
-    record {
-      rest = tail ++ rest;
-      named = ap (λ (text : List ℕ). place ++ (codes ": " ++ text)) (append_assoc (end_text end) tail rest);
-    }
-
-no_names : (routes : Bool) (told : EndTold) (number : Option ℕ) (peer : PeerAs) (count : ℕ)
-    → Names (verdict_text routes told number peer (No count)) (place_text count told.packet told.unexplained) told.end
-no_names routes told number peer count = names (place_text count told.packet told.unexplained) told.end number peer _
-
-told_names : (routes : Bool) (told : EndTold) (number : Option ℕ) (peer : PeerAs) (under : Config) (count : ℕ) → told.answer ≡ JudgedAs number peer under (No count)
-    → Names (told_lines routes told) (place_text count told.packet told.unexplained) told.end
-told_names routes told number peer under count is =
-    subst (λ (a : AnswerValue). Names (answer_text routes told a) (place_text count told.packet told.unexplained) told.end) (sym is) (no_names routes told number peer count)
-
--- ---- at a record, or at a packet
-
-not_at_packet : (text : List ℕ) (packet : ℕ) (rest more : List ℕ) → text ≡ unexplained_text packet ++ rest → text ≡ codes "no at record " ++ more → ⊥
-not_at_packet text packet rest more one other =
-    let differs : 112 ≡ 114 = sym (unexplained_seventh packet rest) ∙ ap seventh (sym one ∙ other) ∙ record_seventh more in omega (arith, differs)
-
-not_at_record : (text : List ℕ) (count : ℕ) (packet : Option ℕ) (rest more : List ℕ) → text ≡ no_text count packet ++ rest → text ≡ codes "no at packet " ++ more → ⊥
-not_at_record text count packet rest more one other =
-    let differs : 114 ≡ 112 = sym (no_text_seventh count packet rest) ∙ ap seventh (sym one ∙ other) ∙ packet_seventh more in omega (arith, differs)
-
-as_record : (routes : Bool) (told : EndTold) (count : ℕ) (packet : Option ℕ) (rest : List ℕ) → told_lines routes told ≡ no_text count packet ++ rest → BeginWith (codes "no at record ") routes told
-unfolding no_text
-as_record routes told count packet rest is = (_, is ∙ append_assoc (codes "no at record ") (decimal (count + 1) ++ packet_text packet) rest)
-
-as_packet : (routes : Bool) (told : EndTold) (packet : ℕ) (rest : List ℕ) → told_lines routes told ≡ unexplained_text packet ++ rest → BeginWith (codes "no at packet ") routes told
-unfolding unexplained_text
-as_packet routes told packet rest is = (_, is ∙ append_assoc (codes "no at packet ") (decimal packet) rest)
-
--- each of the words begins with `no`
-record_is_no : (routes : Bool) (told : EndTold) → BeginWith (codes "no at record ") routes told → BeginWith (codes "no ") routes told
-record_is_no routes told begins = (codes "at record " ++ begins.0, begins.1)
-
-packet_is_no : (routes : Bool) (told : EndTold) → BeginWith (codes "no at packet ") routes told → BeginWith (codes "no ") routes told
-packet_is_no routes told begins = (codes "at packet " ++ begins.0, begins.1)
-
--- the place is a packet where a message is found, and else a record
-record IsFound (found : Option Unexplained) : Type 0 where
-  pub unexplained : Unexplained
-  pub is : found ≡ Some unexplained
-
-found_or_not : (found : Option Unexplained) → (found ≡ None) ⊎ IsFound found
+found_or_not : (its : Option NoOrder) → (its ≡ None) ⊎ IsFound its
 found_or_not None = inl refl
-found_or_not (Some unexplained) = inr record { unexplained = unexplained; is = refl }
+found_or_not (Some found) = inr record { found = found; is = refl }
 
 -- ---- the records of an end that is told
 
@@ -398,89 +318,56 @@ module _ (options : CheckOptions) (packets : List Recorded) (last_packet place :
         ]
       ]
 
-  abbrev NamesPlace : EndTold → ℕ → Option Unexplained → Type 0
-  NamesPlace told count found = Names (told_lines options.routes told) (place_text count told.packet found) told.end
+  -- the text of a no, at the place of its verdict
+  no_named : (side : Side) (told : EndTold) (end : IsEndTold options (asked side) session opening both.connection side told) (denied : IsNo told.answer) (its : Place)
+      → place_for (No denied.count) told.found end.entries ≡ its → told_lines options.routes told ≡ no_lines told its (end_of side session opening)
+  unfolding no_lines
+  no_named side told end denied its stands =
+      let text : told_lines options.routes told ≡ no_lines told told.place told.end = ap (answer_text options.routes told) denied.is in
+      let place : told.place ≡ its = end.is_place ∙ ap (λ (a : AnswerValue). place_of a told.found end.entries) denied.is ∙ stands in
+      subst (λ (e : Endpoint). told_lines options.routes told ≡ no_lines told its e) end.is_end
+      (subst (λ (p : Place). told_lines options.routes told ≡ no_lines told p told.end) place text)
 
-  -- where a no is in the text, if it is at a record
-  at_record : (told : EndTold) (count : ℕ) → NamesPlace told count told.unexplained → BeginWith (codes "no at record ") options.routes told → Names (told_lines options.routes told) (no_text count told.packet) told.end
-  at_record told count names begins = elim (found_or_not told.unexplained) [
-    | inl none ↦ subst (λ (o : Option Unexplained). NamesPlace told count o) none names
-    | inr found ↦
-        let so : NamesPlace told count (Some found.unexplained) = subst (λ (o : Option Unexplained). NamesPlace told count o) found.is names in
-        absurd (not_at_packet (told_lines options.routes told) found.unexplained.packet _ begins.0 so.named begins.1)
-  ]
-
-  -- or at a packet
-  record StandsAtPacket (told : EndTold) : Type 0 where
-    pub unexplained : Unexplained
-    pub is : told.unexplained ≡ Some unexplained
-    pub names : Names (told_lines options.routes told) (unexplained_text unexplained.packet) told.end
-
-  at_packet : (told : EndTold) (count : ℕ) → NamesPlace told count told.unexplained → BeginWith (codes "no at packet ") options.routes told → StandsAtPacket told
-  at_packet told count names begins = elim (found_or_not told.unexplained) [
-    | inl none ↦
-        let so : NamesPlace told count None = subst (λ (o : Option Unexplained). NamesPlace told count o) none names in
-        absurd (not_at_record (told_lines options.routes told) count told.packet _ begins.0 so.named begins.1)
-    | inr found ↦
-        let so : NamesPlace told count (Some found.unexplained) = subst (λ (o : Option Unexplained). NamesPlace told count o) found.is names in
-        record { unexplained = found.unexplained; is = found.is; names = so }
-  ]
-
-  no_other : (told : EndTold) → BeginWith (codes "no ") options.routes told → BeginWith (codes "no at record ") options.routes told ⊎ BeginWith (codes "no at packet ") options.routes told
-  no_other told begins =
-      let no = no_by_text options.routes told told.answer begins.0 begins.1 in
-      let names = told_names options.routes told no.number no.peer no.under no.count no.is in
-      elim (found_or_not told.unexplained) [
-        | inl none ↦
-            let so : NamesPlace told no.count None = subst (λ (o : Option Unexplained). NamesPlace told no.count o) none names in
-            inl (as_record options.routes told no.count told.packet _ so.named)
-        | inr found ↦
-            let so : NamesPlace told no.count (Some found.unexplained) = subst (λ (o : Option Unexplained). NamesPlace told no.count o) found.is names in
-            inr (as_packet options.routes told found.unexplained.packet _ so.named)
-      ]
-
-  true_overall : NoOrderHasARun → (side : Side) (told : EndTold) → IsEndTold options (asked side) session opening both.connection side told
-      → BeginWith (codes "no at packet ") options.routes told → IsTrueOverall options packets last_packet session opening side told
-  unfolding no_records records_so
-  true_overall law side told end begins =
-      let no = no_by_text options.routes told told.answer (packet_is_no options.routes told begins).0 (packet_is_no options.routes told begins).1 in
-      let stands = at_packet told no.count (told_names options.routes told no.number no.peer no.under no.count no.is) begins in
-      let named = subst (λ (e : Endpoint). Names (told_lines options.routes told) (unexplained_text stands.unexplained.packet) e) end.is_end stands.names in
+  -- over all orders
+  true_overall : NoOrderHasARun → (side : Side) (told : EndTold) (end : IsEndTold options (asked side) session opening both.connection side told) (denied : IsNo told.answer) → IsFound told.found
+      → IsTrueOverall options packets last_packet session opening side told
+  unfolding no_records records_so no_lines
+  true_overall law side told end denied it =
       record {
         entries = end.entries;
-        has_records = no_records side told end no;
-        unexplained = stands.unexplained;
-        rest = named.rest;
-        named = named.named;
-        no_order = law options (asked side) session opening both.connection side told stands.unexplained end stands.is;
+        has_records = no_records side told end denied;
+        found = it.found;
+        is_found = it.is;
+        number = told.as_number;
+        has_number = end.is_number;
+        named = no_named side told end denied (sent_place it.found) (ap (λ (f : Option NoOrder). place_for (No denied.count) f end.entries) it.is);
+        no_order = law options (asked side) session opening both.connection side told it.found end it.is;
       }
 
-  true_no : NoConfigurationExplains → HasItsVerdict → (side : Side) (told : EndTold) → IsEndTold options (asked side) session opening both.connection side told
-      → BeginWith (codes "no at record ") options.routes told → IsTrueNo options packets last_packet session opening side told
-  true_no explains has_verdict side told end begins =
+  -- or in one
+  true_no : NoConfigurationExplains → HasItsVerdict → (side : Side) (told : EndTold) (end : IsEndTold options (asked side) session opening both.connection side told) (denied : IsNo told.answer)
+      → told.found ≡ None → IsTrueNo options packets last_packet session opening side told
+  unfolding no_lines
+  true_no explains has_verdict side told end denied none =
       let its = session_from side session in
       let records = records_of end.entries in
-      let no = no_by_text options.routes told told.answer (record_is_no options.routes told begins).0 (record_is_no options.routes told begins).1 in
-      let made = no_of_made options (asked side) (end_of side session opening) its (seen_from side both.connection) told end no.number no.peer no.under no.count no.is in
-      let judged : end.answer ≡ JudgedAs no.number no.peer no.under (No no.count) = sym made.is_told ∙ no.is in
-      let answer : IsJudged its records no.number no.peer no.under (No no.count) = subst (λ (a : AnswerValue). IsAnswerTo its records a) judged end.answers in
-      let holds : HasVerdict no.under records (No no.count) = (has_verdict its records no.number no.peer no.under (No no.count) answer).0 in
-      let stands = stands_at end.entries no.count holds.0 in
-      let packet : told.packet ≡ Some stands.impossible.packet =
-      end.is_packet ∙ ap (λ (a : AnswerValue). packet_of a end.entries) no.is ∙ ap (λ (e : Option Entry). option_map (λ (entry : Entry). entry.packet) e) stands.is in
-      let names = at_record told no.count (told_names options.routes told no.number no.peer no.under no.count no.is) begins in
-      let named = subst (λ (e : Endpoint). Names (told_lines options.routes told) (no_text no.count (Some stands.impossible.packet)) e) end.is_end
-      (subst (λ (p : Option ℕ). Names (told_lines options.routes told) (no_text no.count p) told.end) packet names) in
+      let made = no_of_made options (asked side) (end_of side session opening) its (seen_from side both.connection) told end denied.number denied.peer denied.under denied.count denied.is in
+      let judged : end.answer ≡ JudgedAs denied.number denied.peer denied.under (No denied.count) = sym made.is_told ∙ denied.is in
+      let answer : IsJudged its records denied.number denied.peer denied.under (No denied.count) = subst (λ (a : AnswerValue). IsAnswerTo its records a) judged end.answers in
+      let holds : HasVerdict denied.under records (No denied.count) = (has_verdict its records denied.number denied.peer denied.under (No denied.count) answer).0 in
+      let stands = stands_at end.entries denied.count holds.0 in
       record {
         entries = end.entries;
-        has_records = no_records side told end no;
-        count = no.count;
+        has_records = no_records side told end denied;
+        count = denied.count;
         impossible = stands.impossible;
         stands = stands.is;
-        rest = named.rest;
-        named = named.named;
-        none = λ own config has of. no_run explains options (asked side) session opening both.connection side told no.number no.peer no.under no.count own config end no.is has of;
-        possible = λ own has faultless. (over_answer options (asked side) session opening both.connection side told no.number no.peer no.under (No no.count) end judged own has faultless).1;
+        not_found = none;
+        number = told.as_number;
+        has_number = end.is_number;
+        named = no_named side told end denied (place_at end.entries denied.count) (ap (λ (f : Option NoOrder). place_for (No denied.count) f end.entries) none);
+        none = λ own config has of. no_run explains options (asked side) session opening both.connection side told denied.number denied.peer denied.under denied.count own config end denied.is has of;
+        possible = λ own has faultless. (over_answer options (asked side) session opening both.connection side told denied.number denied.peer denied.under (No denied.count) end judged own has faultless).1;
         by_open = λ own fault has is_fault n within.
             let same = one_own records own answer.own has answer.has_own in
             answer.by_open fault (subst (λ (o : Option (List ℕ)). HasFault o fault) same is_fault) n (subst (λ (o : Option (List ℕ)). HasOwnOpen (take n records) o) same within);
@@ -488,11 +375,12 @@ module _ (options : CheckOptions) (packets : List Recorded) (last_packet place :
 
   true_noes : NoConfigurationExplains → HasItsVerdict → NoOrderHasARun → (side : Side) (told : EndTold) → IsEndTold options (asked side) session opening both.connection side told
       → HasTrueNoes options packets last_packet session opening side told
-  true_noes explains has_verdict law side told end = record {
-    at_record = true_no explains has_verdict side told end;
-    at_packet = true_overall law side told end;
-    no_other = no_other told;
-  }
+  true_noes explains has_verdict law side told end begins =
+      let denied = no_by_text options.routes told told.answer begins.0 begins.1 in
+      elim (found_or_not told.found) [
+        | inl none ↦ inl (true_no explains has_verdict side told end denied none)
+        | inr found ↦ inr (true_overall law side told end denied found)
+      ]
 
   -- ---- a yes
 
@@ -511,10 +399,11 @@ module _ (options : CheckOptions) (packets : List Recorded) (last_packet place :
       record {
         entries = end.entries;
         has_records = records_in side told end;
-        number = yes.number;
+        number = told.as_number;
+        has_number = end.is_number;
         peer = yes.peer;
         ends = yes.ends;
-        named = subst (λ (e : Endpoint). told_lines options.routes told ≡ yes_text options.routes told e yes.number yes.peer yes.ends) end.is_end
+        named = subst (λ (e : Endpoint). told_lines options.routes told ≡ yes_text options.routes told e yes.peer yes.ends) end.is_end
             (ap (λ (a : AnswerValue). answer_text options.routes told a) yes.is);
         own = answer.own;
         has_own = answer.has_own;
@@ -524,15 +413,28 @@ module _ (options : CheckOptions) (packets : List Recorded) (last_packet place :
 
   -- ---- what is unfinished
 
+  made_records : (side : Side) (told : EndTold) (end : IsEndTold options (asked side) session opening both.connection side told) (it : IsUnfinished told.answer)
+      → HasRecords options packets last_packet session opening side end.entries
+  made_records side told end it =
+      elim (unfinished_of options (asked side) (end_of side session opening) (session_from side session) (seen_from side both.connection) told end it.number it.peer it.under it.is) [
+        | inl of ↦ records_so side told end of.made
+        | inr of ↦ records_so side told end of.made
+      ]
+
   true_unfinished : NoneIsWhole → (side : Side) (told : EndTold) → IsEndTold options (asked side) session opening both.connection side told
       → HasTrueUnfinished options packets last_packet session opening side told
   unfolding unfinished_lines
   true_unfinished law side told end begins =
       let it = unfinished_by_text options.routes told told.answer begins.0 begins.1 in
+      let text : told_lines options.routes told ≡ unfinished_lines told told.place told.end = ap (λ (a : AnswerValue). answer_text options.routes told a) it.is in
+      let place : told.place ≡ last_place end.entries = end.is_place ∙ ap (λ (a : AnswerValue). place_of a told.found end.entries) it.is in
       record {
-        number = it.number;
-        peer = it.peer;
-        named = subst (λ (e : Endpoint). told_lines options.routes told ≡ unfinished_lines told e it.number it.peer) end.is_end (ap (λ (a : AnswerValue). answer_text options.routes told a) it.is);
+        entries = end.entries;
+        has_records = made_records side told end it;
+        number = told.as_number;
+        has_number = end.is_number;
+        named = subst (λ (e : Endpoint). told_lines options.routes told ≡ unfinished_lines told (last_place end.entries) e) end.is_end
+            (subst (λ (p : Place). told_lines options.routes told ≡ unfinished_lines told p told.end) place text);
         verdict = verdict_in side told end it.number it.peer it.under law Unfinished it.is;
       }
 
@@ -624,7 +526,9 @@ true_as stopped options packets last_packet session opening side told it = recor
   count = it.count;
   impossible = it.impossible;
   stands = it.stands;
-  rest = it.rest;
+  not_found = it.not_found;
+  number = it.number;
+  has_number = it.has_number;
   named = it.named;
   none = it.none;
   possible = it.possible;
@@ -637,19 +541,20 @@ unfolding records_as
 overall_as stopped options packets last_packet session opening side told it = record {
   entries = it.entries;
   has_records = records_as AreRecordsOf stopped options packets last_packet session opening side it.entries it.has_records;
-  unexplained = it.unexplained;
-  rest = it.rest;
+  found = it.found;
+  is_found = it.is_found;
+  number = it.number;
+  has_number = it.has_number;
   named = it.named;
   no_order = it.no_order;
 }
 
 have_as : (stopped : Option WhyRefused) (options : CheckOptions) (packets : List Recorded) (last_packet : ℕ) (session : Session) (opening : Opening) (side : Side) (told : EndTold)
     → HasTrueNoes (options_by stopped options) packets last_packet session opening side told → HasTrueNoes options packets last_packet session opening side told
-have_as stopped options packets last_packet session opening side told it = record {
-  at_record = λ begins. true_as stopped options packets last_packet session opening side told (it.at_record begins);
-  at_packet = λ begins. overall_as stopped options packets last_packet session opening side told (it.at_packet begins);
-  no_other = it.no_other;
-}
+have_as stopped options packets last_packet session opening side told has begins = elim (has begins) [
+  | inl it ↦ inl (true_as stopped options packets last_packet session opening side told it)
+  | inr it ↦ inr (overall_as stopped options packets last_packet session opening side told it)
+]
 
 noes_as : (stopped : Option WhyRefused) (options : CheckOptions) (packets : List Recorded) (last_packet : ℕ) (block : Block)
     → NoesAreTrue (options_by stopped options) packets last_packet block → NoesAreTrue options packets last_packet block
@@ -676,6 +581,7 @@ yes_as stopped options packets last_packet session opening side told has begins 
       entries = it.entries;
       has_records = records_in_as told.order stopped options packets last_packet session opening side it.entries it.has_records;
       number = it.number;
+      has_number = it.has_number;
       peer = it.peer;
       ends = it.ends;
       named = it.named;
@@ -728,7 +634,14 @@ unfinished_as : (stopped : Option WhyRefused) (options : CheckOptions) (packets 
     → HasTrueUnfinished (options_by stopped options) packets last_packet session opening side told → HasTrueUnfinished options packets last_packet session opening side told
 unfinished_as stopped options packets last_packet session opening side told has begins =
     let it = has begins in
-    record { number = it.number; peer = it.peer; named = it.named; verdict = verdict_in_as told.order stopped options packets last_packet session opening side it.verdict }
+    record {
+      entries = it.entries;
+      has_records = records_as AreRecordsOf stopped options packets last_packet session opening side it.entries it.has_records;
+      number = it.number;
+      has_number = it.has_number;
+      named = it.named;
+      verdict = verdict_in_as told.order stopped options packets last_packet session opening side it.verdict;
+    }
 
 both_unfinished_as : (stopped : Option WhyRefused) (options : CheckOptions) (packets : List Recorded) (last_packet : ℕ) (block : Block)
     → UnfinishedAreTrue (options_by stopped options) packets last_packet block → UnfinishedAreTrue options packets last_packet block

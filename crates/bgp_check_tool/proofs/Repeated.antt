@@ -40,7 +40,7 @@ gives_the_verdict law options asked session opening connection side told number 
     AreOptionsTo options.within asked seen end.entries end.received_unshown end.sent_unshown options.settings told.answer j) there of.judges in
     let for_it = subst (λ (a : AnswerValue).
     AreOptionsTo options.within asked seen end.entries end.received_unshown end.sent_unshown options.settings a (Some line)) is line_told in
-    let (config, so) = of_told options.within asked seen end.entries end.received_unshown end.sent_unshown under line (are_told options.settings verdict) for_it in (
+    let (config, so) = of_told options.within asked seen end.entries end.received_unshown end.sent_unshown under line (are_told options.settings) for_it in (
       subst (λ (c : Config). IsReadAlike (framings_by c line.skips_refresh) options.within seen end.entries) (sym so.are.is_config) so.alike,
       subst (λ (c : Config). HasVerdict c records verdict) (sym (so.are.is_config ∙ so.same)) (law its records number peer under verdict judged).0,
       so.are.calm,

@@ -156,8 +156,8 @@ module _ (session : Session) (within : ℕ) (framings : Framings) (connection : 
     is_under = by.2;
     is_peer = by.1 ∙ is_peer;
   }
-  said_so peer is_peer (said.NoOrder unexplained) by = record {
-    over = over_so (No unexplained.before) (subst (λ (e : Explained). IsSaidOver widest within exchange wants under e) by.0 is_said);
-    is_packet = by.1;
+  said_so peer is_peer (said.NoOrder found) by = record {
+    over = over_so (No found.unexplained.before) (subst (λ (e : Explained). IsSaidOver widest within exchange wants under e) by.0 is_said);
+    is_message = by.1;
   }
   said_so peer is_peer said.Neither by = tt

@@ -1,5 +1,5 @@
 -- What is told of an end, by the order in which it is told.
-use Rattle.std.proofs.Common.{◌≡◌, ◌∙◌, ◌⊎◌, ℕ, List, [], Option, None, Some, IfSome, ap, inl, inr, sym, subst}
+use Rattle.std.proofs.Common.{◌≡◌, ◌∙◌, ◌⊎◌, true, ℕ, List, [], Option, None, Some, IfSome, ap, inl, inr, sym, subst}
 use Rattle.bgp_prefix.specs.Shown.{ShownRecord}
 use Rattle.bgp_prefix.specs.declared.session.Session.{Session}
 use Rattle.segments.specs.declared.found.Endpoint.{Endpoint}
@@ -12,7 +12,7 @@ use Rattle.bgp_recording.specs.declared.entry.Entry.{Entry}
 use Rattle.bgp_recording.specs.declared.framing.Framings.{Framings}
 use Rattle.bgp_recording.specs.declared.framing.Unshown.{Unshown}
 use Rattle.bgp_orders.specs.WholeWays.{AreOfAWayOver}
-use Rattle.bgp_orders.specs.declared.connection.Unexplained.{Unexplained}
+use Rattle.bgp_check_tool.specs.declared.orders.NoOrder.{NoOrder}
 use Rattle.bgp_orders.proofs.Entries.{entries_show_the_way}
 use Rattle.bgp_check.specs.Answered.{AnswerValue, IsAnswerTo, JudgedAs, Unjudged}
 use Rattle.bgp_check.specs.Stretch.{IsStretch}
@@ -29,7 +29,13 @@ use Rattle.bgp_check_tool.specs.declared.late.Late.{Late}
 use Rattle.bgp_check_tool.specs.Another.{IsNo, IsYes}
 use Rattle.bgp_check_tool.specs.Late.{IsLate}
 use Rattle.bgp_check_tool.specs.Orders.{IsFoundTo, IsUnexplained}
-use Rattle.bgp_check_tool.specs.Told.{EndTold, IsOfAll, IsOfAnother, IsOfMade, IsTold, packet_of}
+use Rattle.bgp_check_tool.specs.Told.{EndTold, IsOfAll, IsOfAnother, IsOfMade, IsTold, peer_end, place_of}
+use Rattle.bgp_check_text.specs.AsNumber.{HasAsNumber}
+use Rattle.bgp_check_tool.specs.Elsewhere.{IsOther, in_made}
+use Rattle.bgp_wire.specs.declared.header.Limit.{Limit}
+use Rattle.bgp_why.specs.declared.endpoint.Endpoint.{Endpoint as PeerEnd}
+use Rattle.bgp_why.specs.declared.place.Place.{Place}
+use Rattle.bgp_check_tool.specs.Place.{second_at}
 use Rattle.bgp_check_tool.proofs.Stretch.{stretch_of}
 use Rattle.bgp_check_tool.proofs.WayRecords.{front_is_stretch}
 
@@ -134,17 +140,17 @@ module _ (options : CheckOptions) (asked : Asked) (end : Endpoint) (session : Se
 -- ---- what is told beside an answer
 
 module _ (session : Session) (within : ℕ) (framings : Framings) (connection : Connection) where
-  pub nothing_found : (answer : AnswerValue) (found : Option Unexplained) → found ≡ None → IsFoundTo session within framings connection answer found
+  pub nothing_found : (answer : AnswerValue) (found : Option NoOrder) → found ≡ None → IsFoundTo session within framings connection answer found
   nothing_found (Unjudged why) found none = none
   nothing_found (JudgedAs number peer under (Yes ends)) found none = none
-  nothing_found (JudgedAs number peer under (No count)) found none = subst (λ (o : Option Unexplained). IfSome o (IsUnexplained session within framings connection)) (sym none) tt
+  nothing_found (JudgedAs number peer under (No count)) found none = subst (λ (o : Option NoOrder). IfSome o (IsUnexplained session within framings connection)) (sym none) tt
   nothing_found (JudgedAs number peer under Unfinished) found none = none
 
-  pub message_found : (answer : AnswerValue) (found : Option Unexplained) (unexplained : Unexplained) → found ≡ Some unexplained → IsNo answer
+  pub message_found : (answer : AnswerValue) (found : Option NoOrder) (unexplained : NoOrder) → found ≡ Some unexplained → IsNo answer
       → IsUnexplained session within framings connection unexplained → IsFoundTo session within framings connection answer found
   message_found (Unjudged why) found unexplained some it is = absurd it
   message_found (JudgedAs number peer under (Yes ends)) found unexplained some it is = absurd it
-  message_found (JudgedAs number peer under (No count)) found unexplained some it is = subst (λ (o : Option Unexplained). IfSome o (IsUnexplained session within framings connection)) (sym some) is
+  message_found (JudgedAs number peer under (No count)) found unexplained some it is = subst (λ (o : Option NoOrder). IfSome o (IsUnexplained session within framings connection)) (sym some) is
   message_found (JudgedAs number peer under Unfinished) found unexplained some it is = absurd it
 
   pub yes_not_late : (answer : AnswerValue) (late : Option Late) → IsYes answer → late ≡ None → IsLate session connection answer late
@@ -153,6 +159,30 @@ module _ (session : Session) (within : ℕ) (framings : Framings) (connection : 
   yes_not_late (JudgedAs number peer under (No count)) late it none = absurd it
   yes_not_late (JudgedAs number peer under Unfinished) late it none = absurd it
 
+-- what is said of another message is of what is told, and so is a reason
+module _ (session : Session) (sent : Limit) (peer : PeerEnd) (records : List ShownRecord) where
+  pub other_so : (found found' : Option NoOrder) (its its' : Option Place) (text text' : Option (List ℕ)) → found ≡ found' → its ≡ its' → text ≡ text'
+      → IsOther session sent peer records found' its' text' → IsOther session sent peer records found its text
+  other_so found found' its its' text text' same_found same_place same_text is =
+      subst (λ (f : Option NoOrder). IsOther session sent peer records f its text) (sym same_found)
+      (subst (λ (p : Option Place). IsOther session sent peer records found' p text) (sym same_place)
+      (subst (λ (t : Option (List ℕ)). IsOther session sent peer records found' its' t) (sym same_text) is))
+
+  pub nothing_other : (found : Option NoOrder) (its : Option Place) (text : Option (List ℕ)) → found ≡ None → text ≡ None → IsOther session sent peer records found its text
+  nothing_other found its text none no_text = subst (λ (f : Option NoOrder). IsOther session sent peer records f its text) (sym none) no_text
+
+  pub reason_so : (first : ℕ) (places : ℕ → ℕ → Place) (answer : AnswerValue) (deed deed' lines lines' : List ℕ) → deed ≡ deed' → lines ≡ lines'
+      → IsReasonTo session sent first true peer places records answer deed' lines' → IsReasonTo session sent first true peer places records answer deed lines
+  reason_so first places answer deed deed' lines lines' same_deed same_lines is =
+      subst (λ (d : List ℕ). IsReasonTo session sent first true peer places records answer d lines) (sym same_deed)
+      (subst (λ (l : List ℕ). IsReasonTo session sent first true peer places records answer deed' l) (sym same_lines) is)
+
+-- where the no of the made order stands
+pub made_so : (entries : List Entry) (found found' : Option NoOrder) (answer answer' : AnswerValue) (its : Option Place) → found ≡ found' → answer ≡ answer'
+    → its ≡ in_made entries found' answer' → its ≡ in_made entries found answer
+made_so entries found found' answer answer' its same_found same_answer is =
+    is ∙ ap (λ (f : Option NoOrder). in_made entries f answer') (sym same_found) ∙ ap (λ (a : AnswerValue). in_made entries found a) (sym same_answer)
+
 -- ---- all of it
 
 pub told_so : (options : CheckOptions) (asked : Asked) (end : Endpoint) (session : Session) (connection : Connection) (framings : Framings) (entries : List Entry) (received sent : Unshown)
@@ -160,12 +190,16 @@ pub told_so : (options : CheckOptions) (asked : Asked) (end : Endpoint) (session
     → IsOfMade options asked session connection framings entries received sent answer told
     ⊎ IsOfAnother options asked session connection framings entries received sent answer told
     ⊎ IsOfAll options asked session connection framings entries received sent answer told
-    → told.end ≡ end → told.packet ≡ packet_of its entries
-    → IsFoundTo session options.within framings connection its told.unexplained → told.put_off ≡ put_off 0 entries → told.within ≡ options.within
+    → told.end ≡ end → HasAsNumber (records_of entries) told.as_number
+    → IsFoundTo session options.within framings connection its told.found → told.place ≡ place_of its told.found entries
+    → IsOther session framings.sent.limit (peer_end session connection) (records_of entries) told.found told.in_made told.other → told.first ≡ second_at entries 0
+    → told.put_off ≡ put_off 0 entries → told.within ≡ options.within
     → IsLate session connection its told.late → told.highest ≡ highest_state (records_of entries)
-    → IsReasonTo session framings.sent.limit (shown_places entries) (records_of entries) answer told.reason → told.received ≡ received → told.sent ≡ sent
+    → IsReasonTo session framings.sent.limit (second_at entries 0) true (peer_end session connection) (shown_places entries) (records_of entries) answer told.deed told.reason
+    → told.received ≡ received → told.sent ≡ sent
     → IsTold options asked end session connection told
-told_so options asked end session connection framings entries received sent told answer its same answers are_of is_end is_packet is_found is_put_off is_within is_late is_highest explains is_received is_sent =
+told_so options asked end session connection framings entries received sent told answer its same answers are_of is_end is_number is_found is_place is_other is_first is_put_off is_within is_late is_highest explains
+    is_received is_sent =
     record {
       entries = entries;
       received_unshown = received;
@@ -175,8 +209,11 @@ told_so options asked end session connection framings entries received sent told
       answers = answers;
       are_of = are_of;
       is_end = is_end;
-      is_packet = is_packet ∙ ap (λ (a : AnswerValue). packet_of a entries) (sym same);
-      is_found = subst (λ (a : AnswerValue). IsFoundTo session options.within framings connection a told.unexplained) (sym same) is_found;
+      is_number = is_number;
+      is_found = subst (λ (a : AnswerValue). IsFoundTo session options.within framings connection a told.found) (sym same) is_found;
+      is_place = is_place ∙ ap (λ (a : AnswerValue). place_of a told.found entries) (sym same);
+      is_other = is_other;
+      is_first = is_first;
       is_put_off = is_put_off;
       is_within = is_within;
       is_late = subst (λ (a : AnswerValue). IsLate session connection a told.late) (sym same) is_late;

@@ -1,8 +1,7 @@
 -- The status of a text that was handed over.
-use Rattle.std.proofs.Common.{◌≡◌, ◌∙◌, ◌⊎◌, ◌++◌, ℕ, Bool, IsFalse, IsTrue, codes, inl, inr, refl}
+use Rattle.std.proofs.Common.{◌≡◌, ◌∙◌, ◌⊎◌, ℕ, Bool, IsFalse, IsTrue, inl, inr, refl}
 use Rattle.bgp_prefix.specs.declared.session.Session.{Session}
 use Rattle.streams.specs.declared.connection.Opening.{Opening}
-use Rattle.bgp_import.specs.ListText.{opening_text}
 use Rattle.bgp_check_tool.specs.Blocks.{block_text, ends_block, ends_text}
 use Rattle.bgp_check_tool.specs.declared.connection.EndsTold.{EndsTold}
 use Rattle.bgp_check_tool.specs.declared.connection.EndsTold.TheVariants.{Both, One}
@@ -20,6 +19,6 @@ coded_as failed code status wanted is (inr broken) = inr (broken.0, is ∙ broke
 
 -- the text of a connection that isn't refused
 pub text_of_ends : {X : Type 0} (routes : Bool) (session : Session) (opening : Opening) (told : EndsTold X)
-    → opening_text session opening ++ (codes " " ++ ends_text routes session opening told) ≡ block_text routes (ends_block session opening told)
+    → ends_text routes session opening told ≡ block_text routes (ends_block session opening told)
 text_of_ends routes session opening (Both both) = refl
 text_of_ends routes session opening (One first second) = refl

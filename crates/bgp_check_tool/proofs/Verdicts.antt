@@ -26,7 +26,7 @@ use Rattle.streams.specs.Connections.{numbered}
 use Rattle.bgp_check_tool.specs.declared.options.CheckOptions.{CheckOptions}
 use Rattle.bgp_check_tool.specs.Headline.{IsToldOfSide, NoConfigurationHasARun, NoOrderHasARun, NoneIsWhole, NothingIsVacuous, ToldNoHasNoRun, VerdictIsOverAll}
 use Rattle.bgp_check_tool.specs.Orders.{IsFoundTo, IsUnexplained, UnexplainedByAll, UnfinishedByAll}
-use Rattle.bgp_orders.specs.declared.connection.Unexplained.{Unexplained}
+use Rattle.bgp_check_tool.specs.declared.orders.NoOrder.{NoOrder}
 use Rattle.bgp_check_tool.specs.Seen.{seen_from, session_from}
 use Rattle.bgp_check_tool.specs.Told.{EndTold, IsEndTold}
 use Rattle.bgp_check_tool.proofs.TellingEnd.{judged_so, no_of_made, of_all, told_stretch}
@@ -75,22 +75,22 @@ no_run law options asked session opening connection side told number peer under 
 
 -- ---- a sent message that no order explains
 
-none_found : (unexplained : Unexplained) (found : Option Unexplained) → found ≡ Some unexplained → found ≡ None → ⊥
+none_found : (unexplained : NoOrder) (found : Option NoOrder) → found ≡ Some unexplained → found ≡ None → ⊥
 none_found unexplained found some none = cc
 
-found_is : (session : Session) (within : ℕ) (framings : Framings) (connection : Connection) (answer : AnswerValue) (found : Option Unexplained) (unexplained : Unexplained)
+found_is : (session : Session) (within : ℕ) (framings : Framings) (connection : Connection) (answer : AnswerValue) (found : Option NoOrder) (unexplained : NoOrder)
     → found ≡ Some unexplained → IsFoundTo session within framings connection answer found → IsUnexplained session within framings connection unexplained
 found_is session within framings connection (Unjudged why) found unexplained some none = absurd (none_found unexplained found some none)
 found_is session within framings connection (JudgedAs number peer under (Yes ends)) found unexplained some none = absurd (none_found unexplained found some none)
 found_is session within framings connection (JudgedAs number peer under (No count)) found unexplained some is =
-    subst (λ (o : Option Unexplained). IfSome o (IsUnexplained session within framings connection)) some is
+    subst (λ (o : Option NoOrder). IfSome o (IsUnexplained session within framings connection)) some is
 found_is session within framings connection (JudgedAs number peer under Unfinished) found unexplained some none = absurd (none_found unexplained found some none)
 
 pub no_order : UnexplainedByAll → NoOrderHasARun
 no_order law options asked session opening connection side told unexplained end some =
     let its = session_from side session in
     let seen = seen_from side connection in
-    law its options.within end.framings seen unexplained (found_is its options.within end.framings seen told.answer told.unexplained unexplained some end.is_found)
+    law its options.within end.framings seen unexplained (found_is its options.within end.framings seen told.answer told.found unexplained some end.is_found)
 
 sends_by : (sends extended : Bool) (own told : Option OpenFields) (confederated : Bool) → None ≡ why_not sends extended own told confederated → IsTrue sends
 sends_by false extended own told confederated is = let k : ⊥ = cc in absurd k

@@ -46,7 +46,7 @@ number_in (JudgedAs number peer under verdict) = number
 -- order the answer on its records is kept, and is a yes.
 abbrev pub IsSought : {X : Type 0} → Session → AnswerValue → Searched X → Type 0
 IsSought session answer searches.Nothing = Unit {0}
-IsSought session answer (searches.NoOrder unexplained) = IsNo answer
+IsSought session answer (searches.NoOrder found) = IsNo answer
 IsSought session answer (searches.Unfinished its) = IsNo answer
 IsSought session answer (searches.Another another) =
     IsNoYes answer
@@ -59,8 +59,8 @@ IsSought session answer (searches.Another another) =
 abbrev pub IsFound : {X : Type 0} → Session → ℕ → Framings → Connection → Searched X
     → Type 0
 IsFound session within framings connection searches.Nothing = Unit {0}
-IsFound session within framings connection (searches.NoOrder unexplained) =
-    IsUnexplained session within framings connection unexplained
+IsFound session within framings connection (searches.NoOrder found) =
+    IsUnexplained session within framings connection found
 IsFound session within framings connection (searches.Unfinished its) =
     IsUnfinished session within framings connection its.peer_as its.under
 IsFound session within framings connection (searches.Another another) =

@@ -1,8 +1,6 @@
 -- What is told of a recording: connection by connection, and of two addresses at once where none of
 -- their connections can be told.
 use Rattle.std.specs.Prelude.{◌≡◌, ◌⊎◌, ◌++◌, ℕ, Bool, List, Option, None, Some, Result, Ok, Err}
-use Rattle.std.specs.Prelude.{codes}
-use Rattle.bgp_prefix.specs.Text.{address_text}
 use Rattle.bgp_prefix.specs.declared.session.Session.{Session}
 use Rattle.segments.specs.declared.found.Addresses.{Addresses}
 use Rattle.streams.specs.Choice.{IsAnswered, IsRefused}
@@ -13,10 +11,12 @@ use Rattle.streams.specs.declared.connection.Opening.{Opening}
 use Rattle.streams.specs.declared.fault.Fault.{Fault}
 use Rattle.streams.specs.declared.passed.Side.{Side}
 use Rattle.streams.specs.declared.passed.Side.TheVariants.{Local, Peer}
-use Rattle.bgp_import.specs.ListText.{end_of, octets_text, opening_text, other_side, refused_text}
+use Rattle.bgp_import.specs.ListText.{end_of, other_side}
 use Rattle.bgp_import.specs.declared.refusal.Refusal.{Refusal}
 use Rattle.bgp_import.specs.declared.refusal.Refusal.TheVariants as refusals
 use Rattle.bgp_import.specs.Octets.{octets_from}
+use Rattle.bgp_list.specs.Connections.{connection_text, refused_between_text}
+use Rattle.bgp_list.specs.Connections.{refused_connection_text}
 use Rattle.bgp_check_text.specs.Asked.{asked_of}
 use Rattle.bgp_check_text.specs.declared.options.Asked.{Asked}
 use Rattle.bgp_check_tool.specs.declared.connection.EndsTold.{EndsTold}
@@ -38,33 +38,23 @@ pub data Block : Type 0 where
 
 -- ---- the text
 
-unfoldable pub turned_down_text : Refusal → List ℕ
-turned_down_text refusal = refused_text refusal ++ codes "\n"
+abbrev pub both_text : Bool → EndTold → EndTold → List ℕ
+both_text routes opener other = told_lines routes opener ++ told_lines routes other
 
-unfoldable pub session_text : Addresses → Refusal → List ℕ
-session_text addresses refusal =
-    codes "session " ++ (address_text addresses.from ++ (codes " "
-    ++ (address_text addresses.to ++ (codes " " ++ turned_down_text refusal))))
+abbrev pub neither_text : Session → Opening → List ℕ
+neither_text session opening =
+    one_end_line (end_of opening.opened_by session opening)
+    ++ one_end_line (end_of (other_side opening.opened_by) session opening)
 
-abbrev pub both_text : Bool → ℕ → ℕ → EndTold → EndTold → List ℕ
-both_text routes first second opener other =
-    octets_text first second ++ (codes "\n"
-    ++ (told_lines routes opener ++ told_lines routes other))
-
-unfoldable pub neither_text : Session → Opening → ℕ → ℕ → List ℕ
-neither_text session opening first second =
-    octets_text first second ++ (codes "\n"
-    ++ (one_end_line (end_of opening.opened_by session opening)
-    ++ one_end_line (end_of (other_side opening.opened_by) session opening)))
-
+-- the lines of a list, each with those of its ends
 abbrev pub block_text : Bool → Block → List ℕ
 block_text routes (BothEnds session opening first second opener other) =
-    opening_text session opening ++ (codes " " ++ both_text routes first second opener other)
+    connection_text session opening first second ++ both_text routes opener other
 block_text routes (OneEnd session opening first second) =
-    opening_text session opening ++ (codes " " ++ neither_text session opening first second)
+    connection_text session opening first second ++ neither_text session opening
 block_text routes (Refused session opening refusal) =
-    opening_text session opening ++ (codes " " ++ turned_down_text refusal)
-block_text routes (AllRefused addresses refusal) = session_text addresses refusal
+    refused_connection_text session opening refusal
+block_text routes (AllRefused addresses refusal) = refused_between_text addresses refusal
 
 -- ---- what is told of a connection
 
@@ -138,10 +128,10 @@ ends_block session opening (ends.One first second) = OneEnd session opening firs
 
 abbrev pub ends_text : {X : Type 0} → Bool → Session → Opening → EndsTold X → List ℕ
 ends_text routes session opening (ends.Both both) =
-    both_text routes both.opener_octets both.other_octets
-    (told_value both.opener) (told_value both.other)
+    connection_text session opening both.opener_octets both.other_octets
+    ++ both_text routes (told_value both.opener) (told_value both.other)
 ends_text routes session opening (ends.One first second) =
-    neither_text session opening first second
+    connection_text session opening first second ++ neither_text session opening
 
 -- the refusal in a block, if there is one
 abbrev pub refusal_in : Block → Option Refusal

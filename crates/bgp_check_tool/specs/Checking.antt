@@ -12,7 +12,6 @@ use Rattle.mrt.specs.declared.sink.Sink as sinks
 use Rattle.bgp_text.specs.Lines.{Writes}
 use Rattle.bgp_text.specs.declared.lines.Lines.{Lines}
 use Rattle.bgp_tool.specs.Answer.{IsWritten}
-use Rattle.bgp_import.specs.Refusals.{refusal_line}
 use Rattle.bgp_import.specs.declared.cut_short.CutShort.{CutShort}
 use Rattle.bgp_import.specs.declared.refusal.Refusal.{Refusal}
 use Rattle.bgp_import.specs.declared.refusal.Refusal.TheVariants as refusals
@@ -22,6 +21,7 @@ use Rattle.bgp_check_text.specs.declared.tally.Tally.{Tally}
 use Rattle.bgp_check_tool.specs.declared.nothing.NothingJudged.{NothingJudged}
 use Rattle.bgp_check_tool.specs.declared.options.CheckOptions.{CheckOptions}
 use Rattle.bgp_import.specs.declared.talks.Talks.{Talks}
+use Rattle.bgp_list.specs.Connections.{refused_text}
 use Rattle.bgp_list.specs.Firsts.{firsts_after, with_first}
 use Rattle.bgp_check_tool.specs.Blocks.{Block, block_text, refusal_in}
 use Rattle.bgp_check_tool.specs.Counted.{with_block, with_refused}
@@ -86,13 +86,13 @@ pub record PutsAll {T : Type 0} {sink : sinks.Ghosts T} (options : CheckOptions)
 -- what is told of the file, where that is refused
 abbrev pub file_text : Option Refusal → List ℕ
 file_text None = []
-file_text (Some refusal) = refusal_line refusal
+file_text (Some refusal) = refused_text refusal
 
 -- that the file was cut short, where it was
 abbrev pub cut_note : Option CutShort → List ℕ
 cut_note None = []
 cut_note (Some cut) =
-    codes "note the recording is cut short in packet " ++ (decimal (cut.before + 1) ++ codes "\n")
+    codes "note: the recording is cut short in packet " ++ (decimal (cut.before + 1) ++ codes "\n")
 
 abbrev pub with_file : Tally → Option Refusal → Tally
 with_file tally None = tally

@@ -31,7 +31,7 @@ use Rattle.bgp_check_tool.specs.declared.options.CheckOptions.{CheckOptions}
 use Rattle.bgp_check_tool.specs.Blocks.{BothEnds}
 use Rattle.bgp_check_tool.specs.Made.{IsMade}
 use Rattle.bgp_check_tool.specs.Orders.{NoOrderExplains, NoOrderIsWhole}
-use Rattle.bgp_orders.specs.declared.connection.Unexplained.{Unexplained}
+use Rattle.bgp_check_tool.specs.declared.orders.NoOrder.{NoOrder}
 use Rattle.bgp_import.specs.Pairs.{session_of}
 use Rattle.bgp_import.specs.Places.{HasConnection}
 use Rattle.bgp_check_tool.specs.Places.{IsToldAt}
@@ -67,16 +67,16 @@ NoConfigurationHasARun =
     → (¬ Begins config (take (count + 1) (records_of end.entries)))
     × (¬ Begins config (records_of end.entries))
 
--- A no at a packet says that no order that the packets allow explains the sent message that the
+-- A no over all orders says that none that the packets allow explains the sent message that its
 -- packet is the first to show.
 abbrev pub NoOrderHasARun : Type 0
 NoOrderHasARun =
     (options : CheckOptions) (asked : Asked) (session : Session) (opening : Opening)
-    (connection : Connection) (side : Side) (told : EndTold) (unexplained : Unexplained)
+    (connection : Connection) (side : Side) (told : EndTold) (found : NoOrder)
     (end : IsEndTold options asked session opening connection side told)
-    → told.unexplained ≡ Some unexplained
+    → told.found ≡ Some found
     → NoOrderExplains (session_from side session) options.within end.framings
-    (seen_from side connection) unexplained
+    (seen_from side connection) found.unexplained
 
 -- What is told over all orders is unfinished: none that the packets allow is whole, and some of them
 -- explains all that was sent.

@@ -54,4 +54,4 @@ module _ (within : ℕ) (asked : Asked) (connection : Connection) (entries : Lis
   abbrev pub AreOptionsTo : Settings → AnswerValue → Option JudgeOptions → Type 0
   AreOptionsTo settings (Unjudged why) judge = judge ≡ None
   AreOptionsTo settings (JudgedAs number peer under verdict) judge =
-      AreOptionsFor (are_told settings verdict) under judge
+      AreOptionsFor (are_told settings) under judge

@@ -78,7 +78,7 @@ late_name lates.Unfinished = codes "unfinished"
 
 -- in an answer by records whose messages are handled within so many seconds
 unfoldable pub late_note : ℕ → Late → List ℕ
-late_note within late = codes "  note a router that handles what it received more than "
+late_note within late = codes "  note: a router that handles what it received more than "
     ++ (decimal within ++ (codes " s late may do this: with --within 65535 the answer is "
     ++ (late_name late ++ codes "\n")))
 

@@ -4,6 +4,8 @@ pub mod Judging
 pub mod Orders
 pub mod Another
 pub mod Late
+pub mod Place
+pub mod Elsewhere
 pub mod Told
 pub mod Text
 pub mod Blocks

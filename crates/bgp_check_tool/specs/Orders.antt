@@ -1,7 +1,7 @@
 -- What all orders say that the packets allow, of an end whose verdict in the made order isn't a
 -- yes: the verdict over all of them, under the widest configurations of the end.
 use Rattle.std.specs.Prelude.{◌≡◌, ◌+◌, ◌<◌, ℕ, Bool, true, false, List, Option, None}
-use Rattle.std.specs.Prelude.{IfSome, length, map, nat_lt, option_map, take}
+use Rattle.std.specs.Prelude.{Some, IfSome, length, map, nat_lt, option_map, slice_get, take}
 use Rattle.bgp_prefix.specs.Shown as shown
 use Rattle.bgp_prefix.specs.Shown.{ShownRecord}
 use Rattle.bgp_prefix.specs.declared.session.Session.{Session}
@@ -31,6 +31,7 @@ use Rattle.bgp_check.specs.WidestOf.{AreTold, parts_of, widest_of}
 use Rattle.bgp_check.specs.declared.own_fault.OwnFault.{OwnFault}
 use Rattle.bgp_check.specs.declared.peer_as.PeerAs.{PeerAs}
 use Rattle.bgp_check.specs.declared.widest.Widest.{Widest}
+use Rattle.bgp_check_tool.specs.declared.orders.NoOrder.{NoOrder}
 use Rattle.bgp_check_tool.specs.declared.orders.Said.{Said}
 use Rattle.bgp_check_tool.specs.declared.orders.Said.TheVariants as said
 
@@ -43,6 +44,11 @@ records_received messages =
 
 abbrev pub records_sent : List Message → List ShownRecord
 records_sent messages = map (λ (m : Message). shown.Sent m.second m.octets.now) messages
+
+-- This is the sent message of an exchange before which so many sent ones stand, and its packet.
+pub record IsMessageOf (exchange : Exchange) (found : NoOrder) : Type 0 where
+  pub is_message : slice_get exchange.sent.now found.unexplained.before ≡ Some found.message
+  pub is_packet : IsPacketOf exchange found.unexplained
 
 -- ---- the verdict over all orders, under the widest configurations
 
@@ -88,8 +94,8 @@ IsSaidOver widest within exchange wants under answers.TooMany = Unit {0}
 -- What the answer under that configuration, which is for this peer, says: of a no with its message.
 abbrev pub IsSaidBy : Exchange → PeerAs → Config → Explained → Said → Type 0
 IsSaidBy exchange peer under explained (said.Whole config) = Unit {0}
-IsSaidBy exchange peer under explained (said.NoOrder unexplained) =
-    (explained ≡ answers.Only unexplained.before) × IsPacketOf exchange unexplained
+IsSaidBy exchange peer under explained (said.NoOrder found) =
+    (explained ≡ answers.Only found.unexplained.before) × IsMessageOf exchange found
 IsSaidBy exchange peer under explained (said.Unfinished its) =
     (explained ≡ answers.All false) × (its.peer_as ≡ peer) × (its.under ≡ under)
 IsSaidBy exchange peer under explained said.Neither = Unit {0}
@@ -115,9 +121,9 @@ module _ (session : Session) (within : ℕ) (framings : Framings) (connection : 
     pub is_told : IsToldOver widest within exchange wants under verdict
 
   -- under none of its widest configurations some order explains this sent message
-  pub record IsUnexplained (unexplained : Unexplained) : Type 0 where
-    pub over : IsOver (No unexplained.before)
-    pub is_packet : IsPacketOf over.exchange unexplained
+  pub record IsUnexplained (found : NoOrder) : Type 0 where
+    pub over : IsOver (No found.unexplained.before)
+    pub is_message : IsMessageOf over.exchange found
 
   -- All that was sent is explained under this configuration, which is for this peer, and under none
   -- of the widest some order is whole.
@@ -129,17 +135,17 @@ module _ (session : Session) (within : ℕ) (framings : Framings) (connection : 
   -- what the search says
   abbrev pub IsSaid : Said → Type 0
   IsSaid (said.Whole config) = Unit {0}
-  IsSaid (said.NoOrder unexplained) = IsUnexplained unexplained
+  IsSaid (said.NoOrder found) = IsUnexplained found
   IsSaid (said.Unfinished its) = IsUnfinished its.peer_as its.under
   IsSaid said.Neither = Unit {0}
 
   -- such a message is found of a no alone; that none is found says nothing
-  abbrev pub IsFoundFor : VerdictValue → Option Unexplained → Type 0
+  abbrev pub IsFoundFor : VerdictValue → Option NoOrder → Type 0
   IsFoundFor (verdicts.Yes ends) found = found ≡ None
   IsFoundFor (verdicts.No count) found = IfSome found IsUnexplained
   IsFoundFor verdicts.Unfinished found = found ≡ None
 
-  abbrev pub IsFoundTo : AnswerValue → Option Unexplained → Type 0
+  abbrev pub IsFoundTo : AnswerValue → Option NoOrder → Type 0
   IsFoundTo (Unjudged why) found = found ≡ None
   IsFoundTo (JudgedAs number peer under verdict) found = IsFoundFor verdict found
 
@@ -184,8 +190,8 @@ module _ (session : Session) (within : ℕ) (framings : Framings) (connection : 
 abbrev pub UnexplainedByAll : Type 0
 UnexplainedByAll =
     (session : Session) (within : ℕ) (framings : Framings) (connection : Connection)
-    (unexplained : Unexplained) → IsUnexplained session within framings connection unexplained
-    → NoOrderExplains session within framings connection unexplained
+    (found : NoOrder) → IsUnexplained session within framings connection found
+    → NoOrderExplains session within framings connection found.unexplained
 
 -- that none is whole is what follows where it is unfinished
 abbrev pub UnfinishedByAll : Type 0

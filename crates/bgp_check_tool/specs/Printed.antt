@@ -1,7 +1,7 @@
 -- What the lines of an end are worth: a verdict that is printed of a recording.
-use Rattle.std.specs.Prelude.{◌≡◌, ◌≢◌, ◌<◌, ◌+◌, ◌++◌, ◌⊎◌, ℕ, Bool, List, [], Option, Some}
-use Rattle.std.specs.Prelude.{codes, reverse, take}
-use Rattle.std.specs.List.{AllByRecursion, flat_map, slice_get}
+use Rattle.std.specs.Prelude.{◌≡◌, ◌≢◌, ◌<◌, ◌+◌, ◌++◌, ◌⊎◌, ℕ, Bool, List, [], Option, None}
+use Rattle.std.specs.Prelude.{Some, codes, reverse, take}
+use Rattle.std.specs.List.{AllByRecursion, slice_get}
 use Rattle.packets.specs.Packet.{Recorded}
 use Rattle.bgp_prefix.specs.declared.session.Session.{Session}
 use Rattle.bgp_open.specs.declared.config.Config.{Config}
@@ -19,7 +19,7 @@ use Rattle.bgp_recording.specs.Recorded.{IsRecorded}
 use Rattle.bgp_recording.specs.declared.entry.Entry.{Entry}
 use Rattle.bgp_recording.specs.declared.framing.Framings.{Framings}
 use Rattle.bgp_recording.specs.declared.framing.Unshown.{Unshown}
-use Rattle.bgp_import.specs.ListText.{end_of, end_text, other_side}
+use Rattle.bgp_import.specs.ListText.{end_of, other_side}
 use Rattle.bgp_import.specs.declared.cut_short.CutShort.{CutShort}
 use Rattle.bgp_import.specs.declared.refusal.Refusal.{Refusal}
 use Rattle.bgp_tool.specs.Answer.{IsWritten}
@@ -31,8 +31,8 @@ use Rattle.bgp_check.specs.WidestMade.{IsFaultless}
 use Rattle.bgp_check.specs.declared.own_fault.OwnFault.{OwnFault}
 use Rattle.bgp_check.specs.declared.peer_as.PeerAs.{PeerAs}
 use Rattle.bgp_check_text.specs.Tally.{status_of, tally_line}
-use Rattle.bgp_check_text.specs.Text.{ending_text, no_text}
-use Rattle.bgp_check_text.specs.Unshown.{unshown_notes}
+use Rattle.bgp_check_text.specs.AsNumber.{HasAsNumber}
+use Rattle.bgp_check_text.specs.Text.{no_line, unfinished_line, yes_lines}
 use Rattle.bgp_check_text.specs.declared.tally.Tally.{Tally}
 use Rattle.bgp_import.specs.Pairs.{session_of}
 use Rattle.bgp_import.specs.Places.{HasConnection}
@@ -43,16 +43,16 @@ use Rattle.bgp_check_tool.specs.Checking.{blocks_text, cut_note, file_text, noth
 use Rattle.bgp_check_tool.specs.Headline.{IsToldOfSide}
 use Rattle.bgp_check_tool.specs.declared.another.Order.{Order}
 use Rattle.bgp_check_tool.specs.declared.another.Order.TheVariants as orders
-use Rattle.bgp_check_tool.specs.Judging.{judge_text, options_by}
-use Rattle.bgp_check_tool.specs.Late.{late_text}
+use Rattle.bgp_check_tool.specs.Judging.{options_by}
 use Rattle.bgp_check_tool.specs.Orders.{NoOrderExplains, NoOrderIsWhole}
 use Rattle.bgp_orders.specs.WholeWays.{AreOfAWayOver}
-use Rattle.bgp_orders.specs.declared.connection.Unexplained.{Unexplained}
+use Rattle.bgp_check_tool.specs.declared.orders.NoOrder.{NoOrder}
+use Rattle.bgp_check_tool.specs.Place.{last_place, place_at, sent_place}
 use Rattle.bgp_check_tool.specs.Made.{AreOffered, with_both_offers}
 use Rattle.bgp_check_tool.specs.Places.{IsToldAt}
 use Rattle.bgp_check_tool.specs.Seen.{seen_from, session_from}
-use Rattle.bgp_check_tool.specs.Text.{another_text, told_lines, unexplained_text}
-use Rattle.bgp_check_tool.specs.Text.{unfinished_text, whose_text}
+use Rattle.bgp_check_tool.specs.Text.{after_no, after_unfinished, after_yes, deed_by}
+use Rattle.bgp_check_tool.specs.Text.{name_with, told_lines}
 use Rattle.bgp_check_tool.specs.Told.{EndTold}
 
 -- ---- the records of an end
@@ -166,11 +166,12 @@ HasVerdictIn orders.All options packets last_packet session opening side verdict
 abbrev pub BeginWith : List ℕ → Bool → EndTold → Type 0
 BeginWith word routes told = (rest : List ℕ) × (told_lines routes told ≡ word ++ rest)
 
--- They name this end, a record of it, and the packet that shows that record. No run under a
--- configuration under which the OPEN that the end sent is its own shows the records up to that one;
--- nor all of them. Some run under one of these configurations shows those before it, if there is
--- such a configuration: it is the record at which no run goes on. If there is none, for a fault of
--- the OPEN, no record behind that OPEN is named. All of that is said of one order of the records.
+-- They name this end, and the packet and the second of a record of it. No run under a configuration
+-- under which the OPEN that the end sent is its own shows the records up to that one; nor all of
+-- them. Some run under one of these configurations shows those before it, if there is such a
+-- configuration: it is the record at which no run goes on. If there is none, for a fault of the
+-- OPEN, no record behind that OPEN is named. All of that is said of one order of the records, as a
+-- note says.
 pub record IsTrueNo (options : CheckOptions) (packets : List Recorded) (last_packet : ℕ)
     (session : Session) (opening : Opening) (side : Side) (told : EndTold) : Type 0 where
   pub entries : List Entry
@@ -178,10 +179,12 @@ pub record IsTrueNo (options : CheckOptions) (packets : List Recorded) (last_pac
   pub count : ℕ
   pub impossible : Entry
   pub stands : slice_get entries count ≡ Some impossible
-  pub rest : List ℕ
+  pub not_found : told.found ≡ None
+  pub number : Option ℕ
+  pub has_number : HasAsNumber (records_of entries) number
   pub named : told_lines options.routes told
-      ≡ no_text count (Some impossible.packet)
-      ++ (codes ": " ++ (end_text (end_of side session opening) ++ rest))
+      ≡ no_line (place_at entries count) (name_with (end_of side session opening) number)
+      (deed_by told.deed told.other) ++ after_no told
   pub none : (own : Option (List ℕ)) (config : Config) → HasOwnOpen (records_of entries) own
       → IsOf (session_from side session) own config
       → (¬ Begins config (take (count + 1) (records_of entries)))
@@ -192,33 +195,33 @@ pub record IsTrueNo (options : CheckOptions) (packets : List Recorded) (last_pac
   pub by_open : (own : Option (List ℕ)) (fault : OwnFault) → HasOwnOpen (records_of entries) own
       → HasFault own fault → (n : ℕ) → HasOwnOpen (take n (records_of entries)) own → count < n
 
--- They name this end, and the first packet that shows a message that the end sent. In no order
--- that the packets allow a run explains that message and all before it, under no configuration
--- under which the OPEN that the end sent is its own. In some such order a run explains those before
--- it, under one of these configurations, if there is one. If there is none, for a fault of the
--- OPEN, the message is that OPEN at the latest.
+-- They name this end, and the first packet that shows a message that the end sent, with the
+-- message's second. In no order that the packets allow a run explains that message and all before
+-- it, under no configuration under which the OPEN that the end sent is its own. In some such order
+-- a run explains those before it, under one of these configurations, if there is one. If there is
+-- none, for a fault of the OPEN, the message is that OPEN at the latest.
 pub record IsTrueOverall (options : CheckOptions) (packets : List Recorded) (last_packet : ℕ)
     (session : Session) (opening : Opening) (side : Side) (told : EndTold) : Type 0 where
   pub entries : List Entry
   pub has_records : HasRecords options packets last_packet session opening side entries
-  pub unexplained : Unexplained
-  pub rest : List ℕ
+  pub found : NoOrder
+  pub is_found : told.found ≡ Some found
+  pub number : Option ℕ
+  pub has_number : HasAsNumber (records_of entries) number
   pub named : told_lines options.routes told
-      ≡ unexplained_text unexplained.packet
-      ++ (codes ": " ++ (end_text (end_of side session opening) ++ rest))
+      ≡ no_line (sent_place found) (name_with (end_of side session opening) number)
+      (deed_by told.deed told.other) ++ after_no told
   pub no_order : NoOrderExplains (session_from side session) options.within
-      has_records.are_records.framings (seen_from side has_records.connection) unexplained
+      has_records.are_records.framings (seen_from side has_records.connection) found.unexplained
 
--- Each line of an end that begins with the word `no` is one of these two, and true.
-pub record HasTrueNoes (options : CheckOptions) (packets : List Recorded) (last_packet : ℕ)
-    (session : Session) (opening : Opening) (side : Side) (told : EndTold) : Type 0 where
-  pub at_record : BeginWith (codes "no at record ") options.routes told
-      → IsTrueNo options packets last_packet session opening side told
-  pub at_packet : BeginWith (codes "no at packet ") options.routes told
-      → IsTrueOverall options packets last_packet session opening side told
-  pub no_other : BeginWith (codes "no ") options.routes told
-      → BeginWith (codes "no at record ") options.routes told
-      ⊎ BeginWith (codes "no at packet ") options.routes told
+-- Each line of an end that begins with the word `no` is one of these two, and true: the first if
+-- the note on one order follows, and the second if it doesn't.
+abbrev pub HasTrueNoes : CheckOptions → List Recorded → ℕ → Session → Opening → Side → EndTold
+    → Type 0
+HasTrueNoes options packets last_packet session opening side told =
+    BeginWith (codes "no ") options.routes told
+    → IsTrueNo options packets last_packet session opening side told
+    ⊎ IsTrueOverall options packets last_packet session opening side told
 
 -- so it is of both ends of a connection
 abbrev pub NoesAreTrue : CheckOptions → List Recorded → ℕ → Block → Type 0
@@ -241,13 +244,12 @@ pub record IsTrueYes (options : CheckOptions) (packets : List Recorded) (last_pa
   pub has_records : HasRecordsIn told.order options packets last_packet session opening side
       entries
   pub number : Option ℕ
+  pub has_number : HasAsNumber (records_of entries) number
   pub peer : PeerAs
   pub ends : List End
   pub named : told_lines options.routes told
-      ≡ codes "yes" ++ (whose_text (end_of side session opening) number peer
-      ++ (flat_map (ending_text options.routes told.highest) ends
-      ++ (unshown_notes told.received told.sent
-      ++ (another_text told.order ++ judge_text told.judge))))
+      ≡ yes_lines options.routes (name_with (end_of side session opening) number) peer
+      told.highest ends ++ after_yes told
   pub own : Option (List ℕ)
   pub has_own : HasOwnOpen (records_of entries) own
   pub some : ends ≢ []
@@ -271,17 +273,18 @@ YesesAreTrue options packets last_packet (AllRefused addresses refusal) = Unit {
 
 -- ---- a line that begins with the word `unfinished`
 
--- They name this end. The verdict is that on its records in the made order. Or it is so over all
--- orders that the packets allow, and then a note says so.
+-- They name this end, and the packet and the second of its last record in the made order. The
+-- verdict is that on its records in that order. Or it is so over all orders that the packets allow,
+-- and then a note says so.
 pub record IsTrueUnfinished (options : CheckOptions) (packets : List Recorded) (last_packet : ℕ)
     (session : Session) (opening : Opening) (side : Side) (told : EndTold) : Type 0 where
+  pub entries : List Entry
+  pub has_records : HasRecords options packets last_packet session opening side entries
   pub number : Option ℕ
-  pub peer : PeerAs
+  pub has_number : HasAsNumber (records_of entries) number
   pub named : told_lines options.routes told
-      ≡ codes "unfinished" ++ (whose_text (end_of side session opening) number peer
-      ++ (told.reason ++ (unshown_notes told.received told.sent
-      ++ (unfinished_text told.order told.put_off
-      ++ (late_text told.within told.late ++ judge_text told.judge)))))
+      ≡ unfinished_line (last_place entries) (name_with (end_of side session opening) number)
+      ++ after_unfinished told
   pub verdict : HasVerdictIn told.order options packets last_packet session opening side
       Unfinished
 

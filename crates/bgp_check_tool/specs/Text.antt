@@ -1,64 +1,87 @@
 -- The lines of an end.
-use Rattle.std.specs.Prelude.{◌++◌, Bool, ℕ, List, [], Option, None, Some, codes}
+use Rattle.std.specs.Prelude.{◌++◌, Bool, ℕ, zero, suc, List, [], Option, None, Some, codes}
 use Rattle.std.specs.Fmt.{decimal}
-use Rattle.std.specs.List.{flat_map}
+use Rattle.bgp_clock.specs.When.{short_text}
 use Rattle.bgp_judge.specs.Verdict.{No, Unfinished, VerdictValue, Yes}
 use Rattle.segments.specs.declared.found.Endpoint.{Endpoint}
-use Rattle.bgp_import.specs.ListText.{end_text}
-use Rattle.bgp_check.specs.declared.not_judged.NotJudged.{NotJudged}
 use Rattle.bgp_check.specs.declared.peer_as.PeerAs.{PeerAs}
 use Rattle.bgp_check.specs.Answered.{AnswerValue, JudgedAs, Unjudged}
+use Rattle.bgp_check_text.specs.Text.{no_line, not_judged_line, unfinished_line, yes_lines}
 use Rattle.bgp_check_text.specs.Unshown.{unshown_notes}
-use Rattle.bgp_check_text.specs.Text.{as_text, ending_text, no_text, peer_text, why_text}
+use Rattle.bgp_check_text.specs.declared.end.EndName.{EndName}
+use Rattle.bgp_why.specs.Endpoint.{endpoint_text}
+use Rattle.bgp_why.specs.Place.{place_text}
+use Rattle.bgp_why.specs.declared.endpoint.Endpoint.{Endpoint as NamedEnd}
+use Rattle.bgp_why.specs.declared.place.Place.{Place}
 use Rattle.bgp_check_tool.specs.declared.another.Order.{Order}
 use Rattle.bgp_check_tool.specs.declared.another.Order.TheVariants as orders
+use Rattle.bgp_check_tool.specs.declared.orders.NoOrder.{NoOrder}
 use Rattle.bgp_check_tool.specs.Judging.{judge_text}
 use Rattle.bgp_check_tool.specs.Late.{late_text}
 use Rattle.bgp_check_tool.specs.Told.{EndTold}
-use Rattle.bgp_orders.specs.declared.connection.Unexplained.{Unexplained}
 
--- ---- an end that isn't judged
+-- ---- which end
 
-unfoldable pub not_judged_line : Endpoint → NotJudged → List ℕ
-not_judged_line end why =
-    codes "not judged: " ++ (end_text end ++ (codes ", " ++ (why_text why ++ codes "\n")))
+-- its address and port
+abbrev pub named_end : Endpoint → NamedEnd
+named_end end = record { address = end.address; port = Some end.port }
+
+-- and the AS number in its OPEN, if it sent one
+abbrev pub name_with : Endpoint → Option ℕ → EndName
+name_with end number =
+    record { end = named_end end; as_number = number; part = None }
+
+abbrev pub name_of : EndTold → EndName
+name_of told = name_with told.end told.as_number
 
 -- an end of a connection whose two ends are one
 unfoldable pub one_end_line : Endpoint → List ℕ
-one_end_line end = codes "not judged: " ++ (end_text end ++ codes ", both ends are one\n")
-
--- ---- whose verdict it is, and for which peer
-
-unfoldable pub whose_text : Endpoint → Option ℕ → PeerAs → List ℕ
-whose_text end number peer = codes ": " ++ (end_text end ++ (as_text number
-    ++ (codes ", peer as " ++ (peer_text peer ++ codes "\n"))))
+one_end_line end =
+    codes "not judged: " ++ (endpoint_text (named_end end)
+    ++ codes ": both ends have this address and port\n")
 
 -- ---- a no, and what is unfinished
 
--- where a no is: at the packet of the first sent message that no order explains, if one is known;
--- or else at a record of the order that is judged
-unfoldable pub unexplained_text : ℕ → List ℕ
-unexplained_text packet = codes "no at packet " ++ decimal packet
+-- what the record shows was done at which a no stands
+abbrev pub deed_by : List ℕ → Option (List ℕ) → List ℕ
+deed_by deed None = deed
+deed_by deed (Some other) = other
 
-abbrev pub place_text : ℕ → Option ℕ → Option Unexplained → List ℕ
-place_text count packet None = no_text count packet
-place_text count packet (Some unexplained) = unexplained_text unexplained.packet
+-- what the impossible record of the made order shows was done, if that isn't told so
+unfoldable pub in_made_line : ℕ → List ℕ → Place → List ℕ
+in_made_line first deed place =
+    codes "  in the order of bgp import, " ++ (place_text place ++ (codes ", "
+    ++ (short_text first place.second place.micro ++ (codes ": " ++ (deed ++ codes "\n")))))
 
+abbrev pub in_made_text : ℕ → List ℕ → Option Place → List ℕ
+in_made_text first deed None = []
+in_made_text first deed (Some place) = in_made_line first deed place
+
+-- so many messages are delayed in the order that is judged
+unfoldable pub delayed_text : ℕ → List ℕ
+delayed_text count = codes "; messages delayed in it: " ++ decimal count
+
+-- unless there are none
+abbrev pub delayed_if : ℕ → List ℕ
+delayed_if zero = []
+delayed_if (suc count) = delayed_text (suc count)
+
+-- that order is one of those that the packets may allow
 unfoldable pub note_line : ℕ → List ℕ
 note_line count =
-    codes "  note judged in one order that the packets allow; received messages put off: "
-    ++ (decimal count ++ codes "\n")
+    codes "  note: packets do not show when a router handled what it received, "
+    ++ (codes "so this is one possible order" ++ (delayed_if count ++ codes "\n"))
 
 -- a no in all orders has no such line
-abbrev pub order_text : ℕ → Option Unexplained → List ℕ
+abbrev pub order_text : ℕ → Option NoOrder → List ℕ
 order_text count None = note_line count
-order_text count (Some unexplained) = []
+order_text count (Some found) = []
 
 -- ---- a yes
 
 -- in another order than the made one
 unfoldable pub another_line : List ℕ
-another_line = codes "  note the order that bgp import makes isn't a yes: "
+another_line = codes "  note: the order that bgp import makes is not a yes: "
     ++ codes "another that these packets allow is\n"
 
 abbrev pub another_text : Order → List ℕ
@@ -70,7 +93,7 @@ another_text orders.All = []
 
 -- over all orders, where the made one is a no
 unfoldable pub over_all_line : List ℕ
-over_all_line = codes "  note the order that bgp import makes is a no: "
+over_all_line = codes "  note: the order that bgp import makes is a no: "
     ++ codes "over all that these packets allow it is unfinished\n"
 
 abbrev pub unfinished_text : Order → ℕ → List ℕ
@@ -80,26 +103,40 @@ unfinished_text orders.All put_off = over_all_line
 
 -- ---- all of it
 
-abbrev pub verdict_text : Bool → EndTold → Option ℕ → PeerAs → VerdictValue → List ℕ
-verdict_text routes told number peer (Yes ends) =
-    codes "yes" ++ (whose_text told.end number peer
-    ++ (flat_map (ending_text routes told.highest) ends
-    ++ (unshown_notes told.received told.sent
-    ++ (another_text told.order ++ judge_text told.judge))))
-verdict_text routes told number peer (No count) =
-    place_text count told.packet told.unexplained ++ (whose_text told.end number peer
+-- what stands after the first line of a yes and its routes
+abbrev pub after_yes : EndTold → List ℕ
+after_yes told =
+    unshown_notes told.received told.sent
+    ++ (another_text told.order ++ judge_text told.judge)
+
+-- what stands after the first line of a no
+abbrev pub after_no : EndTold → List ℕ
+after_no told =
+    in_made_text told.first told.deed told.in_made
     ++ (told.reason ++ (unshown_notes told.received told.sent
-    ++ (order_text told.put_off told.unexplained
-    ++ (late_text told.within told.late ++ judge_text told.judge)))))
-verdict_text routes told number peer Unfinished =
-    codes "unfinished" ++ (whose_text told.end number peer
+    ++ (late_text told.within told.late ++ (order_text told.put_off told.found
+    ++ judge_text told.judge))))
+
+-- and after that of what is unfinished
+abbrev pub after_unfinished : EndTold → List ℕ
+after_unfinished told =
+    in_made_text told.first told.deed told.in_made
     ++ (told.reason ++ (unshown_notes told.received told.sent
-    ++ (unfinished_text told.order told.put_off ++ (late_text told.within told.late ++ judge_text told.judge)))))
+    ++ (late_text told.within told.late ++ (unfinished_text told.order told.put_off
+    ++ judge_text told.judge))))
+
+abbrev pub verdict_text : Bool → EndTold → PeerAs → VerdictValue → List ℕ
+verdict_text routes told peer (Yes ends) =
+    yes_lines routes (name_of told) peer told.highest ends ++ after_yes told
+verdict_text routes told peer (No count) =
+    no_line told.place (name_of told) (deed_by told.deed told.other) ++ after_no told
+verdict_text routes told peer Unfinished =
+    unfinished_line told.place (name_of told) ++ after_unfinished told
 
 abbrev pub answer_text : Bool → EndTold → AnswerValue → List ℕ
-answer_text routes told (Unjudged why) = not_judged_line told.end why
+answer_text routes told (Unjudged why) = not_judged_line (name_of told) why
 answer_text routes told (JudgedAs number peer under verdict) =
-    verdict_text routes told number peer verdict
+    verdict_text routes told peer verdict
 
 abbrev pub told_lines : Bool → EndTold → List ℕ
 told_lines routes told = answer_text routes told told.answer

@@ -1,6 +1,5 @@
 -- What is told of one of a connection's two ends.
-use Rattle.std.specs.Prelude.{◌≡◌, ◌⊎◌, ℕ, List, Option, None, option_map}
-use Rattle.std.specs.List.{slice_get}
+use Rattle.std.specs.Prelude.{◌≡◌, ◌⊎◌, true, ℕ, List, Option, None, Some}
 use Rattle.bgp_prefix.specs.declared.session.Session.{Session}
 use Rattle.segments.specs.declared.found.Endpoint.{Endpoint}
 use Rattle.streams.specs.declared.connection.Connection.{Connection}
@@ -16,7 +15,8 @@ use Rattle.bgp_import.specs.ListText.{end_of}
 use Rattle.bgp_open.specs.declared.config.Config.{Config}
 use Rattle.bgp_check.specs.Answered.{AnswerValue, IsAnswerTo, JudgedAs, Unjudged, answer_value}
 use Rattle.bgp_check.specs.declared.peer_as.PeerAs.{PeerAs}
-use Rattle.bgp_check_text.specs.Reason.{IsReasonTo, reason_text}
+use Rattle.bgp_check_text.specs.AsNumber.{HasAsNumber}
+use Rattle.bgp_check_text.specs.Reason.{IsReasonTo, deed_text, lines_text}
 use Rattle.bgp_explain.specs.Places.{shown_places}
 use Rattle.bgp_check_text.specs.Highest.{highest_state}
 use Rattle.bgp_check_tool.specs.declared.ending.Told.{Told}
@@ -29,22 +29,35 @@ use Rattle.bgp_check_tool.specs.Another.{IsNo, IsNoYes, IsYes, number_in}
 use Rattle.bgp_check_tool.specs.Judging.{AreOptionsTo}
 use Rattle.bgp_check_tool.specs.Late.{IsLate}
 use Rattle.bgp_check_tool.specs.declared.late.Late.{Late}
+use Rattle.bgp_check_tool.specs.declared.orders.NoOrder.{NoOrder}
+use Rattle.bgp_check_tool.specs.Elsewhere.{IsOther, in_made, no_place, octets_if}
+use Rattle.bgp_check_tool.specs.Place.{last_place, place_at, second_at, sent_place}
+use Rattle.bgp_why.specs.declared.endpoint.Endpoint.{Endpoint as PeerEnd}
+use Rattle.bgp_why.specs.declared.place.Place.{Place}
 use Rattle.bgp_check_tool.specs.Made.{IsMade}
 use Rattle.bgp_check_tool.specs.Orders.{IsFoundTo, IsUnfinished}
 use Rattle.bgp_orders.specs.WholeWays.{AreOfAWayOver}
-use Rattle.bgp_orders.specs.declared.connection.Unexplained.{Unexplained}
 use Rattle.bgp_check_tool.specs.Seen.{seen_from, session_from}
 
 -- what is told, its answer as a value
 pub record EndTold : Type 0 where
   pub end : Endpoint
+  -- the AS number in its OPEN, if it sent one
+  pub as_number : Option ℕ
   pub answer : AnswerValue
   -- in which order that is so
   pub order : Order
-  -- the packet that shows the first impossible record, of a no
-  pub packet : Option ℕ
   -- the first sent message that no order explains, of a no, if one is known
-  pub unexplained : Option Unexplained
+  pub found : Option NoOrder
+  -- where a no stands: at that message, or else at the impossible record; of another verdict where
+  -- the last record stands
+  pub place : Place
+  -- where the no of the made order stands, if that isn't told so
+  pub in_made : Option Place
+  -- what that message shows was done, if the no of the made order stands elsewhere
+  pub other : Option (List ℕ)
+  -- the second of the first record
+  pub first : ℕ
   -- how many received messages are put off in the order that is judged
   pub put_off : ℕ
   -- within how many seconds a message is handled in that order
@@ -53,7 +66,9 @@ pub record EndTold : Type 0 where
   pub late : Option Late
   -- the number of the highest state that is told
   pub highest : ℕ
-  -- the lines on why it is a no or unfinished, where it is
+  -- what the impossible record of a no shows was done, and the lines on why it is a no or
+  -- unfinished, where it is
+  pub deed : List ℕ
   pub reason : List ℕ
   -- what of the octets that it received is in no record, and of those that it sent
   pub received : Unshown
@@ -64,30 +79,41 @@ pub record EndTold : Type 0 where
 abbrev pub told_value : {X : Type 0} → Told X → EndTold
 told_value told = record {
   end = told.end;
+  as_number = told.as_number;
   answer = answer_value told.answer;
   order = told.order;
-  packet = told.packet;
-  unexplained = told.unexplained;
+  found = told.found;
+  place = told.place;
+  in_made = told.in_made;
+  other = octets_if told.other;
+  first = told.first;
   put_off = told.put_off;
   within = told.within;
   late = told.late;
   highest = told.highest;
-  reason = reason_text told.reason;
+  deed = deed_text told.reason;
+  reason = lines_text told.reason;
   received = told.received;
   sent = told.sent;
   judge = told.judge;
 }
 
--- the packet that shows the first impossible record, where there is one
-abbrev pub packet_by : VerdictValue → List Entry → Option ℕ
-packet_by (Yes ends) entries = None
-packet_by (No count) entries =
-    option_map (λ (entry : Entry). entry.packet) (slice_get entries count)
-packet_by Unfinished entries = None
+-- where a no stands: at the first sent message that no order explains, if one is known, and else at
+-- the impossible record; of another answer where the last record stands
+abbrev pub place_for : VerdictValue → Option NoOrder → List Entry → Place
+place_for (Yes ends) found entries = last_place entries
+place_for (No count) None entries = place_at entries count
+place_for (No count) (Some found) entries = sent_place found
+place_for Unfinished found entries = last_place entries
 
-abbrev pub packet_of : AnswerValue → List Entry → Option ℕ
-packet_of (Unjudged why) entries = None
-packet_of (JudgedAs number peer under verdict) entries = packet_by verdict entries
+abbrev pub place_of : AnswerValue → Option NoOrder → List Entry → Place
+place_of (Unjudged why) found entries = last_place entries
+place_of (JudgedAs number peer under verdict) found entries = place_for verdict found entries
+
+-- the peer of an end, with its port
+abbrev pub peer_end : Session → Connection → PeerEnd
+peer_end session connection =
+    record { address = session.peer; port = Some connection.peer_port }
 
 -- In which order of the end's messages it is told, of which these are the entries, and this is
 -- answered of them; an end of this session that has the connection so, framed so, and is asked for
@@ -100,6 +126,7 @@ module _ (options : CheckOptions) (asked : Asked) (session : Session) (connectio
     pub is_order : told.order ≡ orders.Made
     pub made : IsMade options.within connection framings entries received_unshown sent_unshown
     pub is_told : told.answer ≡ answer
+    pub is_in_made : told.in_made ≡ in_made entries told.found told.answer
     pub judges : AreOptionsTo options.within asked connection entries received_unshown
         sent_unshown options.settings told.answer told.judge
 
@@ -118,6 +145,7 @@ module _ (options : CheckOptions) (asked : Asked) (session : Session) (connectio
     pub made_answer : AnswerValue
     pub answers_made : IsAnswerTo session (records_of made_entries) made_answer
     pub is_no_yes : IsNoYes made_answer
+    pub not_in_made : told.in_made ≡ None
     pub no_judge : told.judge ≡ None
 
   -- Or it is unfinished over all of them, where the made one is a no. It is told under the
@@ -130,6 +158,7 @@ module _ (options : CheckOptions) (asked : Asked) (session : Session) (connectio
     pub under : Config
     pub over : IsUnfinished session options.within framings connection peer under
     pub is_told : told.answer ≡ JudgedAs (number_in answer) peer under Unfinished
+    pub is_in_made : told.in_made ≡ no_place entries answer
     pub no_judge : told.judge ≡ None
 
 -- This is told of the end at this address and port, of this session, that has the connection so:
@@ -152,15 +181,19 @@ pub record IsTold (options : CheckOptions) (asked : Asked) (end : Endpoint) (ses
       ⊎ IsOfAll options asked session connection framings entries received_unshown
       sent_unshown answer told
   pub is_end : told.end ≡ end
-  pub is_packet : told.packet ≡ packet_of told.answer entries
-  pub is_found : IsFoundTo session options.within framings connection told.answer
-      told.unexplained
+  pub is_number : HasAsNumber (records_of entries) told.as_number
+  pub is_found : IsFoundTo session options.within framings connection told.answer told.found
+  pub is_place : told.place ≡ place_of told.answer told.found entries
+  pub is_other : IsOther session framings.sent.limit (peer_end session connection)
+      (records_of entries) told.found told.in_made told.other
+  pub is_first : told.first ≡ second_at entries 0
   pub is_put_off : told.put_off ≡ put_off 0 entries
   pub is_within : told.within ≡ options.within
   pub is_late : IsLate session connection told.answer told.late
   pub is_highest : told.highest ≡ highest_state (records_of entries)
-  pub explains : IsReasonTo session framings.sent.limit (shown_places entries)
-      (records_of entries) answer told.reason
+  pub explains : IsReasonTo session framings.sent.limit (second_at entries 0) true
+      (peer_end session connection) (shown_places entries) (records_of entries) answer told.deed
+      told.reason
   pub is_received : told.received ≡ received_unshown
   pub is_sent : told.sent ≡ sent_unshown
 

@@ -9,11 +9,11 @@ ghost use Rattle.bgp_check.specs.Answered.{IsAnswerTo, answer_value};
 ghost use Rattle.bgp_check_tool.specs.Another.{IsFound, IsNo, IsNoYes, IsSought, IsYes};
 
 use crate::ending::Viewed;
-use crate::orders::{Said, Under, search_end};
+use crate::orders::{NoOrder, Said, Under, search_end};
 use bgp_check::{Answer, check_end};
 use bgp_judge::{Tracker, Verdict};
 use bgp_open::Config;
-use bgp_orders::{Unexplained, record_whole_way};
+use bgp_orders::record_whole_way;
 use bgp_recording::{Framings, Recording};
 use std::alloc::Allocator;
 
@@ -42,7 +42,7 @@ pub(crate) enum Searched<'a, A: Allocator> {
     /// Nothing: that answer is told.
     Nothing,
     /// No order explains this sent message.
-    NoOrder(Unexplained),
+    NoOrder(NoOrder<'a>),
     /// Some order explains all that was sent, and none is a yes.
     Unfinished(Under),
     /// Another order is a yes.
@@ -157,7 +157,7 @@ pub(crate) fn search_orders<'a, A: Allocator + Copy, T: Tracker<A>>(
                 None => Searched::Nothing,
             }
         }
-        Ok(Said::NoOrder(unexplained)) if is_no(answer) => Searched::NoOrder(unexplained),
+        Ok(Said::NoOrder(found)) if is_no(answer) => Searched::NoOrder(found),
         Ok(Said::Unfinished(under)) if is_no(answer) => Searched::Unfinished(under),
         Ok(_) | Err(_) => Searched::Nothing,
     }

@@ -10,7 +10,7 @@ ghost use Rattle.bgp_list.specs.Firsts.{AreApart, with_first};
 ghost use Rattle.bgp_import.specs.Listed.{CanBeTold, IsListed};
 ghost use Rattle.bgp_import.specs.Talks.{HoldsSome};
 
-use crate::blocks::{put_connection, put_session};
+use crate::blocks::put_block;
 use crate::connection::{Between, check_connection};
 use crate::counted::Counted;
 use crate::nothing::{NothingJudged, put_nothing};
@@ -18,11 +18,10 @@ use crate::options::CheckOptions;
 use arrayvec::ArrayVec;
 use bgp_check_text::{Settings, Tally};
 use bgp_import::{
-    CutShort, Listed, Refusal, Talks, cut_short_at, listed_in, put_refusal, refused, selection_of,
-    take_all,
+    CutShort, Listed, Refusal, Talks, cut_short_at, listed_in, refused, selection_of, take_all,
 };
 use bgp_judge::Tracker;
-use bgp_list::NUMBERS;
+use bgp_list::{NUMBERS, put_refused, put_refused_between};
 use bgp_text::Lines;
 use bgp_tool::hand_over;
 use mrt::{Sink, Source};
@@ -71,12 +70,12 @@ fn put_listed<A: Allocator + Copy, T: Tracker<A>, W: Sink>(
                 last_packet,
             };
             let told = check_connection::<A, T>(alloc, &between, &talk.connections, opening);
-            put_connection(lines, &between.session, opening, &told, options.routes);
+            put_block(lines, &between.session, opening, &told, options.routes);
             counted.add_connection(&between.session, opening, &told);
         }
         Listed::Refused(addresses, fault) => {
             let refusal = refused(fault, packet);
-            put_session(lines, addresses, refusal);
+            put_refused_between(lines, addresses, refusal);
             counted.add_refusal(refusal);
         }
     }
@@ -123,7 +122,7 @@ fn put_file<W: Sink>(lines: &mut Lines<'_, W>, counted: &mut Counted, refusal: O
 {
     match refusal {
         Some(refusal) => {
-            put_refusal(lines, refusal);
+            put_refused(lines, refusal);
             counted.add_refusal(refusal);
         }
         None => lines.put(b""),
@@ -136,7 +135,7 @@ fn put_cut_short<W: Sink>(lines: &mut Lines<'_, W>, cut_short: Option<CutShort>)
 {
     match cut_short {
         Some(CutShort { before }) => {
-            lines.put(b"note the recording is cut short in packet ");
+            lines.put(b"note: the recording is cut short in packet ");
             lines.put_decimal(before as u128 + 1);
             lines.put(b"\n");
         }
@@ -158,7 +157,8 @@ fn nothing_by(port: u16, tally: Tally, refusal: Option<Refusal>) -> Option<Nothi
     }
 }
 
-/// After which verdicts the options of `bgp judge` are told: after none, where the file is refused.
+/// Whether the `bgp judge` command is told that reproduces a verdict: it isn't if the file is
+/// refused.
 fn settings_by(stopped: Option<Refusal>, settings: Settings) -> Settings
     ensures { result ≡ settings_by stopped settings }
 {

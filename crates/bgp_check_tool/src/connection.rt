@@ -28,20 +28,20 @@ use streams::{Connection, Connections, Opening, Side};
 
 /// Both ends of a connection, first that of whoever opened it; and how many octets each sent.
 #[derive(Drop)]
-pub(crate) struct BothTold<A: Allocator> {
-    pub(crate) opener: Told<A>,
-    pub(crate) other: Told<A>,
+pub(crate) struct BothTold<'a, A: Allocator> {
+    pub(crate) opener: Told<'a, A>,
+    pub(crate) other: Told<'a, A>,
     pub(crate) opener_octets: usize,
     pub(crate) other_octets: usize,
 }
 
 /// What is told of a connection that isn't refused.
 #[derive(Drop)]
-pub(crate) enum EndsTold<A: Allocator> {
+pub(crate) enum EndsTold<'a, A: Allocator> {
     /// How many octets either end sent, whoever opened it first, where both ends are one.
     One(usize, usize),
     /// Both ends.
-    Both(BothTold<A>),
+    Both(BothTold<'a, A>),
 }
 
 /// Between which addresses a connection goes, and how it is checked.
@@ -54,14 +54,14 @@ pub(crate) struct Between {
 }
 
 /// What is told of this end of a connection, for which `bgp judge` is asked so.
-fn check_side<A: Allocator + Copy, T: Tracker<A>>(
+fn check_side<'a, A: Allocator + Copy, T: Tracker<A>>(
     alloc: A,
     between: &Between,
     opening: Opening,
-    connection: &Connection<'_>,
+    connection: &Connection<'a>,
     side: Side,
     asked: Asked,
-) -> Result<Told<A>, AllocError>
+) -> Result<Told<'a, A>, AllocError>
     requires received { IsCovered connection.now.received }
     requires sent { IsCovered connection.now.sent }
     ensures { IfOk result (λ told. IsClocked connection.now → IsEndTold between.now.options asked
@@ -81,13 +81,13 @@ fn check_side<A: Allocator + Copy, T: Tracker<A>>(
 
 /// What is told of both ends of a connection, first of that which opened it; and how `bgp judge` is
 /// asked for them.
-fn check_both<A: Allocator + Copy, T: Tracker<A>>(
+fn check_both<'a, A: Allocator + Copy, T: Tracker<A>>(
     alloc: A,
     between: &Between,
     opening: Opening,
-    connection: &Connection<'_>,
+    connection: &Connection<'a>,
     asked: (Asked, Asked),
-) -> Result<BothTold<A>, AllocError>
+) -> Result<BothTold<'a, A>, AllocError>
     requires received { IsCovered connection.now.received }
     requires sent { IsCovered connection.now.sent }
     ensures opener { IfOk result (λ both. IsClocked connection.now → IsEndTold
@@ -162,12 +162,12 @@ fn asked_both<A: Allocator + Copy>(
 }
 
 /// What is told of the connection of these that was opened so, or why it is refused.
-pub(crate) fn check_connection<A: Allocator + Copy, T: Tracker<A>>(
+pub(crate) fn check_connection<'a, A: Allocator + Copy, T: Tracker<A>>(
     alloc: A,
     between: &Between,
-    connections: &Connections<A>,
+    connections: &'a Connections<A>,
     opening: Opening,
-) -> Result<EndsTold<A>, Refusal>
+) -> Result<EndsTold<'a, A>, Refusal>
     requires { AreHeld connections.now }
     ensures { (segments : List Segment) → HoldsConnections segments connections.now
         → AreInOrder segments

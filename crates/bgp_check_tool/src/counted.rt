@@ -67,7 +67,7 @@ impl Counted {
         &mut self,
         session: &Session,
         opening: Opening,
-        told: &Result<EndsTold<A>, Refusal>,
+        told: &Result<EndsTold<'_, A>, Refusal>,
     )
         requires { AreApart self.old.refusals.items }
         ensures tallied { self.new.tally

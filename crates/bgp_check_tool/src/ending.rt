@@ -1,10 +1,11 @@
 //! What is told of one of a connection's two ends.
 
-ghost use Rattle.std.specs.Prelude.{◌≡◌, None, IfOk, map};
+ghost use Rattle.std.specs.Prelude.{◌≡◌, true, None, IfOk, map};
 ghost use Rattle.mrt.specs.Reader.{shown_of};
 ghost use Rattle.bgp_check.specs.Answered.{IsAnswerTo, JudgedAs, answer_value};
 ghost use Rattle.bgp_judge.specs.Verdict.{Unfinished};
-ghost use Rattle.bgp_check_text.specs.Reason.{IsReasonTo, reason_text};
+ghost use Rattle.bgp_check_text.specs.AsNumber.{HasAsNumber};
+ghost use Rattle.bgp_check_text.specs.Reason.{IsReasonTo, deed_text, lines_text};
 ghost use Rattle.bgp_explain.specs.Places.{shown_places};
 ghost use Rattle.bgp_import.specs.Captures.{put_off};
 ghost use Rattle.bgp_recording.specs.Captured.{records_of};
@@ -13,25 +14,29 @@ ghost use Rattle.bgp_recording.specs.Recorded.{IsRecordedInOrder};
 ghost use Rattle.bgp_check_text.specs.Highest.{highest_state};
 ghost use Rattle.bgp_check_tool.specs.declared.another.Order.TheVariants.{Made as OfMade};
 ghost use Rattle.bgp_check_tool.specs.Another.{number_in};
+ghost use Rattle.bgp_check_tool.specs.Elsewhere.{IsOther, in_made, no_place, octets_if};
 ghost use Rattle.bgp_check_tool.specs.Judging.{AreOptionsTo};
 ghost use Rattle.bgp_check_tool.specs.Late.{IsLate};
 ghost use Rattle.bgp_check_tool.specs.Made.{IsMade};
-ghost use Rattle.bgp_check_tool.specs.Told.{IsTold, packet_of, told_value};
+ghost use Rattle.bgp_check_tool.specs.Place.{second_at};
+ghost use Rattle.bgp_check_tool.specs.Told.{IsTold, peer_end, place_of, told_value};
 
 use crate::another::{AnotherOrder, Order, Searched, search_orders};
+use crate::elsewhere::{in_made, no_place, other_deed};
 use crate::judging::options_to;
 use crate::late::{Late, late_of};
 use crate::making::Made;
 use crate::options::CheckOptions;
-use crate::orders::Under;
+use crate::orders::{NoOrder, Under};
+use crate::place::{last_place, place_at, second_at, sent_place};
 use bgp_check::{Answer, Judged, check_end};
-use bgp_check_text::{Asked, JudgeOptions, Reason, highest_state, reason_of};
+use bgp_check_text::{Asked, JudgeOptions, Reason, highest_state, reason_of, sent_as_number};
 use bgp_explain::Places;
 use bgp_import::notes_on;
 use bgp_judge::{Tracker, Verdict};
-use bgp_orders::Unexplained;
-use bgp_prefix::Session;
+use bgp_prefix::{Seconds, Session};
 use bgp_recording::{Entry, Framings, Recording, Unshown};
+use bgp_why::{Endpoint as PeerEnd, Place};
 use segments::Endpoint;
 use std::alloc::{AllocError, Allocator};
 use streams::Connection;
@@ -52,17 +57,26 @@ pub(crate) struct Viewed<'a> {
 
 /// What is told of an end.
 #[derive(Drop)]
-pub(crate) struct Told<A: Allocator> {
+pub(crate) struct Told<'a, A: Allocator> {
     /// Its address and port.
     pub(crate) end: Endpoint,
+    /// The AS number in its OPEN, if it sent one.
+    pub(crate) as_number: Option<u32>,
     /// What is answered of its records.
     pub(crate) answer: Answer<A>,
     /// In which order that is so.
     pub(crate) order: Order,
-    /// The packet that shows the first impossible record, of a no.
-    pub(crate) packet: Option<u64>,
     /// The first sent message that no order explains, of a no, if one is known.
-    pub(crate) unexplained: Option<Unexplained>,
+    pub(crate) found: Option<NoOrder<'a>>,
+    /// Where a no stands: at that message, or else at the impossible record. Of another verdict
+    /// where the last record stands.
+    pub(crate) place: Place,
+    /// Where the no of the made order stands, if that isn't told so.
+    pub(crate) in_made: Option<Place>,
+    /// What that message shows was done, if the no of the made order stands elsewhere.
+    pub(crate) other: Option<Vec<u8, A>>,
+    /// The second of the first record.
+    pub(crate) first: Seconds,
     /// How many received messages are put off in the order that is judged.
     pub(crate) put_off: usize,
     /// Within how many seconds a message is handled in that order.
@@ -80,43 +94,52 @@ pub(crate) struct Told<A: Allocator> {
     pub(crate) judge: Option<JudgeOptions>,
 }
 
-/// The packet that shows the first impossible record: of a no alone.
-fn packet_of<A: Allocator>(answer: &Answer<A>, entries: &[Entry<'_>]) -> Option<u64>
-    ensures { result ≡ packet_of (answer_value answer.now) entries.now }
+/// Returns where a no stands, of which this is the first sent message that no order explains, if
+/// one is known; and of another answer where the last record stands.
+fn place_of<A: Allocator>(
+    answer: &Answer<A>,
+    found: &Option<NoOrder<'_>>,
+    entries: &[Entry<'_>],
+) -> Place
+    ensures { result ≡ place_of (answer_value answer.now) found.now entries.now }
 {
     let Answer::Judged(judged) = answer else {
-        return None;
+        return last_place(entries);
     };
-    match &judged.verdict {
-        Verdict::No(count) => match entries.get(*count as usize) {
-            Some(entry) => Some(entry.packet),
-            None => None,
-        },
-        Verdict::Yes(_) | Verdict::Unfinished => None,
+    match (&judged.verdict, found) {
+        (Verdict::No(_), Some(found)) => sent_place(found),
+        (Verdict::No(count), None) => place_at(entries, *count as usize),
+        (Verdict::Yes(_) | Verdict::Unfinished, _) => last_place(entries),
     }
 }
 
 /// What is told beside an answer.
-#[derive(Clone, Copy)]
-struct Beside {
+#[derive(Drop)]
+struct Beside<'a, A: Allocator> {
     order: Order,
-    unexplained: Option<Unexplained>,
+    found: Option<NoOrder<'a>>,
+    in_made: Option<Place>,
+    other: Option<Vec<u8, A>>,
     late: Option<Late>,
     judge: Option<JudgeOptions>,
 }
 
-impl Beside {
-    /// Beside an answer of another order than the made one, or over all of them, with what it
-    /// becomes.
-    fn of_others(order: Order, late: Option<Late>) -> Beside
+impl<'a, A: Allocator + Copy> Beside<'a, A> {
+    /// Beside an answer of another order than the made one, or over all of them, with where the no
+    /// of the made one stands, and what the answer becomes.
+    fn of_others(order: Order, in_made: Option<Place>, late: Option<Late>) -> Beside<'a, A>
         ensures order { result.order ≡ order }
-        ensures unexplained { result.unexplained ≡ None }
+        ensures found { result.found ≡ None }
+        ensures in_made { result.in_made ≡ in_made }
+        ensures other { octets_if result.other ≡ None }
         ensures late { result.late ≡ late }
         ensures judge { result.judge ≡ None }
     {
         Beside {
             order,
-            unexplained: None,
+            found: None,
+            in_made,
+            other: None,
             late,
             judge: None,
         }
@@ -124,19 +147,25 @@ impl Beside {
 
     /// Beside this answer on the made order, of which this is the first sent message that no order
     /// explains, if one is known.
-    fn of_made<A: Allocator + Copy, T: Tracker<A>>(
+    fn of_made<T: Tracker<A>>(
         alloc: A,
         viewed: &Viewed<'_>,
         made: &Made<'_, A>,
         answer: &Answer<A>,
-        unexplained: Option<Unexplained>,
-    ) -> Result<Beside, AllocError>
+        found: Option<NoOrder<'a>>,
+    ) -> Result<Beside<'a, A>, AllocError>
         requires received { IsCovered viewed.now.connection.received }
         requires sent { IsCovered viewed.now.connection.sent }
         requires records { map shown_of made.now.recording.records.items
             ≡ records_of made.now.recording.entries.items }
         ensures order { IfOk result (λ beside. beside.order ≡ OfMade) }
-        ensures unexplained { IfOk result (λ beside. beside.unexplained ≡ unexplained) }
+        ensures found { IfOk result (λ beside. beside.found ≡ found.entry) }
+        ensures in_made { IfOk result (λ beside. beside.in_made ≡ in_made
+            made.now.recording.entries.items found.entry (answer_value answer.now)) }
+        ensures other { IfOk result (λ beside. IsOther viewed.now.session
+            made.now.framings.sent.limit (peer_end viewed.now.session viewed.now.connection)
+            (records_of made.now.recording.entries.items) beside.found beside.in_made
+            (octets_if beside.other)) }
         ensures late { IfOk result (λ beside. IsClocked viewed.now.connection → IsLate
             viewed.now.session viewed.now.connection (answer_value answer.now) beside.late) }
         ensures judge { IfOk result (λ beside. IsClocked viewed.now.connection
@@ -147,12 +176,27 @@ impl Beside {
             made.now.recording.entries.items made.now.recording.received made.now.recording.sent
             viewed.now.options.settings (answer_value answer.now) beside.judge) }
     {
+        let entries = made.recording.entries.as_slice();
+        let in_made = in_made(entries, &found, answer);
+        let other = other_deed(alloc, viewed, made, &found, in_made)?;
         Ok(Beside {
             order: Order::Made,
-            unexplained,
+            found,
+            in_made,
+            other,
             late: late_of::<A, T>(alloc, viewed, answer)?,
             judge: options_to(alloc, viewed, made, answer)?,
         })
+    }
+}
+
+/// Returns the peer of an end, with its port.
+pub(crate) fn peer_end(session: &Session, connection: &Connection<'_>) -> PeerEnd
+    ensures { result ≡ peer_end session.now connection.now }
+{
+    PeerEnd {
+        address: session.peer,
+        port: Some(connection.peer_port),
     }
 }
 
@@ -169,45 +213,61 @@ fn reason_on<A: Allocator + Copy, T: Tracker<A>>(
     requires answers { IsAnswerTo viewed.now.session (records_of recording.now.entries.items)
         (answer_value answer.now) }
     ensures { IfOk result (λ reason. IsReasonTo viewed.now.session framings.sent.limit
+        (second_at recording.now.entries.items 0) true
+        (peer_end viewed.now.session viewed.now.connection)
         (shown_places recording.now.entries.items) (records_of recording.now.entries.items)
-        (answer_value answer.now) (reason_text reason)) }
+        (answer_value answer.now) (deed_text reason) (lines_text reason)) }
 {
     let _viewed = *viewed;
     let records = recording.records.as_slice();
-    let places = Places::Shown(recording.entries.as_slice());
-    let reason = reason_of::<A, T>(alloc, framings.sent.limit, places, records, answer)?;
+    let entries = recording.entries.as_slice();
+    let first = second_at(entries, 0);
+    let places = Places::Shown(entries);
+    let peer = peer_end(&viewed.session, &viewed.connection);
+    let sent = framings.sent.limit;
+    let reason = reason_of::<A, T>(alloc, sent, first, &peer, places, records, answer)?;
     Ok(reason)
 }
 
 /// What is told of an end with this answer, of these records, for this reason.
-fn told_of<A: Allocator>(
+fn told_of<'a, A: Allocator + Copy>(
     viewed: &Viewed<'_>,
     recording: &Recording<'_, A>,
     answer: Answer<A>,
     reason: Reason<A>,
-    beside: Beside,
-) -> Told<A>
+    beside: Beside<'a, A>,
+) -> Told<'a, A>
     requires records { map shown_of recording.now.records.items
         ≡ records_of recording.now.entries.items }
     ensures end { result.end ≡ viewed.now.end }
+    ensures as_number { HasAsNumber (records_of recording.now.entries.items) result.as_number }
     ensures answer { answer_value result.answer ≡ answer_value answer }
-    ensures packet { result.packet ≡ packet_of (answer_value answer) recording.now.entries.items }
+    ensures place { result.place
+        ≡ place_of (answer_value answer) beside.entry.found recording.now.entries.items }
+    ensures first { result.first ≡ second_at recording.now.entries.items 0 }
     ensures put_off { result.put_off ≡ put_off 0 recording.now.entries.items }
     ensures within { result.within ≡ viewed.now.options.within }
     ensures highest { result.highest
         ≡ highest_state (records_of recording.now.entries.items) }
-    ensures reason { reason_text result.reason ≡ reason_text reason }
+    ensures reason { (deed_text result.reason ≡ deed_text reason)
+        × (lines_text result.reason ≡ lines_text reason) }
     ensures unshown { (result.received ≡ recording.now.received)
         × (result.sent ≡ recording.now.sent) }
-    ensures beside { (result.order ≡ beside.order) × (result.unexplained ≡ beside.unexplained)
-        × (result.late ≡ beside.late) × (result.judge ≡ beside.judge) }
+    ensures beside { (result.order ≡ beside.entry.order) × (result.found ≡ beside.entry.found)
+        × (result.in_made ≡ beside.entry.in_made)
+        × (octets_if result.other ≡ octets_if beside.entry.other)
+        × (result.late ≡ beside.entry.late) × (result.judge ≡ beside.entry.judge) }
 {
     Told {
         end: viewed.end,
-        packet: packet_of(&answer, &recording.entries),
+        as_number: sent_as_number(&recording.records),
+        place: place_of(&answer, &beside.found, &recording.entries),
         answer,
         order: beside.order,
-        unexplained: beside.unexplained,
+        found: beside.found,
+        in_made: beside.in_made,
+        other: beside.other,
+        first: second_at(&recording.entries, 0),
         put_off: notes_on(recording).put_off,
         within: viewed.options.within,
         late: beside.late,
@@ -244,11 +304,11 @@ fn unfinished<A: Allocator>(as_number: Option<u32>, its: Under) -> Answer<A>
 /// What is told of an end of whose connection these records were made: of another order that the
 /// packets allow, if that is a yes and the made one isn't; that it is unfinished over all orders, if
 /// the made one is a no; else of the made one.
-pub(crate) fn told_by<A: Allocator + Copy, T: Tracker<A>>(
+pub(crate) fn told_by<'a, A: Allocator + Copy, T: Tracker<A>>(
     alloc: A,
-    viewed: &Viewed<'_>,
+    viewed: &Viewed<'a>,
     made: &Made<'_, A>,
-) -> Result<Told<A>, AllocError>
+) -> Result<Told<'a, A>, AllocError>
     requires received { IsCovered viewed.now.connection.received }
     requires sent { IsCovered viewed.now.connection.sent }
     requires records { map shown_of made.now.recording.records.items
@@ -261,30 +321,31 @@ pub(crate) fn told_by<A: Allocator + Copy, T: Tracker<A>>(
 {
     let (framings, recording) = (made.framings, &made.recording);
     let records = recording.records.as_slice();
+    let entries = recording.entries.as_slice();
     let answer = check_end::<A, T>(alloc, &viewed.session, records)?;
     match search_orders::<A, T>(alloc, viewed, framings, &answer) {
         Searched::Nothing => {
             let reason = reason_on::<A, T>(alloc, viewed, framings, recording, &answer)?;
-            let beside = Beside::of_made::<A, T>(alloc, viewed, made, &answer, None)?;
+            let beside = Beside::of_made::<T>(alloc, viewed, made, &answer, None)?;
             Ok(told_of(viewed, recording, answer, reason, beside))
         }
-        Searched::NoOrder(unexplained) => {
-            let found = Some(unexplained);
+        Searched::NoOrder(found) => {
             let reason = reason_on::<A, T>(alloc, viewed, framings, recording, &answer)?;
-            let beside = Beside::of_made::<A, T>(alloc, viewed, made, &answer, found)?;
+            let beside = Beside::of_made::<T>(alloc, viewed, made, &answer, Some(found))?;
             Ok(told_of(viewed, recording, answer, reason, beside))
         }
         Searched::Unfinished(its) => {
             let reason = reason_on::<A, T>(alloc, viewed, framings, recording, &answer)?;
+            let in_made = no_place(entries, &answer);
             let answer = unfinished(number_in(&answer), its);
             let late = late_of::<A, T>(alloc, viewed, &answer)?;
-            let beside = Beside::of_others(Order::All, late);
+            let beside = Beside::of_others(Order::All, in_made, late);
             Ok(told_of(viewed, recording, answer, reason, beside))
         }
         Searched::Another(another) => {
             let AnotherOrder { recording, answer } = another;
             let reason = reason_on::<A, T>(alloc, viewed, framings, &recording, &answer)?;
-            let beside = Beside::of_others(Order::Another, None);
+            let beside = Beside::of_others(Order::Another, None, None);
             Ok(told_of(viewed, &recording, answer, reason, beside))
         }
     }

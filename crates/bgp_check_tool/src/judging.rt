@@ -2,7 +2,6 @@
 
 ghost use Rattle.std.specs.Prelude.{◌≡◌, IfOk, map};
 ghost use Rattle.mrt.specs.Reader.{shown_of};
-ghost use Rattle.bgp_judge.specs.Verdict.{verdict_value};
 ghost use Rattle.bgp_check.specs.Answered.{answer_value};
 ghost use Rattle.bgp_recording.specs.Captured.{records_of};
 ghost use Rattle.bgp_recording.specs.Gathered.{IsClocked, IsCovered};
@@ -60,10 +59,9 @@ fn options_for<A: Allocator + Copy>(
         made.now.recording.entries.items made.now.recording.received made.now.recording.sent
         → AreOptionsFor viewed.now.options.within viewed.now.asked viewed.now.connection
         made.now.recording.entries.items made.now.recording.received made.now.recording.sent
-        (are_told viewed.now.options.settings (verdict_value judged.now.verdict))
-        judged.now.under judge) }
+        (are_told viewed.now.options.settings) judged.now.under judge) }
 {
-    if !viewed.options.settings.are_told(&judged.verdict) {
+    if !viewed.options.settings.are_told() {
         return Ok(None);
     }
     let Some(config) = told_configuration(&made.recording.records, judged) else {

@@ -167,7 +167,7 @@ fn late_name(late: Late) -> &'static str
 fn put_late_note<W: Sink>(lines: &mut Lines<'_, W>, within: u16, late: Late)
     ensures { Writes lines.old lines.new (late_note within late) }
 {
-    lines.put(b"  note a router that handles what it received more than ");
+    lines.put(b"  note: a router that handles what it received more than ");
     lines.put_decimal(within);
     lines.put(b" s late may do this: with --within 65535 the answer is ");
     lines.put(late_name(late).as_bytes());

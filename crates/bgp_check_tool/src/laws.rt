@@ -24,8 +24,8 @@ pub fn no_configuration_has_a_run()
     no_configuration_explains_a_no();
 }
 
-/// States what a no at a packet says: under no configuration under which the OPEN that the end sent
-/// is its own, and in no order that the packets allow, a run of the session machine explains a sent
+/// States what a no over all orders says: under no configuration under which the OPEN that the end
+/// sent is its own, and in no order that the packets allow, a run of the session machine explains a sent
 /// message that this packet is the first to show, and all before it. If the OPEN is any
 /// configuration's own, under one of them a run explains those before it, in some such order. If it
 /// isn't, the message is that OPEN at the latest.

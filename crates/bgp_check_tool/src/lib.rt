@@ -2,7 +2,7 @@
 //! recording of packets kept to the standard, without a setting.
 //!
 //! ```text
-//! let settings = Settings::UnlessYes;
+//! let settings = Settings::Always;
 //! let options = CheckOptions { port: 179, within: 10, routes: false, settings };
 //! let checked = check_recording::<_, CompactTracker<_>, _, _>(alloc, &options, source, sink);
 //! std::process::exit(checked.status);
@@ -14,6 +14,7 @@ mod blocks;
 mod checking;
 mod connection;
 mod counted;
+mod elsewhere;
 mod ending;
 mod headline;
 mod judging;
@@ -25,6 +26,7 @@ mod nothing;
 mod options;
 mod orders;
 mod peer;
+mod place;
 mod seen;
 
 pub use bgp_check_text::Settings;

@@ -11,6 +11,7 @@ pub struct CheckOptions {
     pub within: u16,
     /// Whether the routes of each end are told.
     pub routes: bool,
-    /// After which verdicts the options of `bgp judge` are told, where the file is read to its end.
+    /// Whether the `bgp judge` command is told that reproduces a verdict, if the file is read to
+    /// its end.
     pub settings: Settings,
 }

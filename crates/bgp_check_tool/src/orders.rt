@@ -36,13 +36,22 @@ pub(crate) struct Under {
     pub(crate) under: Config,
 }
 
+/// The first sent message that no order explains.
+#[derive(Clone, Copy)]
+pub(crate) struct NoOrder<'a> {
+    /// Where it stands.
+    pub(crate) unexplained: Unexplained,
+    /// The message.
+    pub(crate) message: Message<'a>,
+}
+
 /// What all orders of an end's messages say.
 #[derive(Clone, Copy)]
-pub(crate) enum Said {
+pub(crate) enum Said<'a> {
     /// By the search some order is whole under this configuration.
     Whole(Config),
     /// No order explains this sent message.
-    NoOrder(Unexplained),
+    NoOrder(NoOrder<'a>),
     /// Some order explains all that was sent, and none is whole.
     Unfinished(Under),
     /// None of these is known.
@@ -148,7 +157,7 @@ fn search_over<A: Allocator + Copy>(
 
 /// Returns what the answer says, which is for this peer; of a no with the first sent message that no
 /// order explains.
-fn said_of(exchange: &Exchange<'_, '_>, peer_as: PeerAs, over: Over) -> Said
+fn said_of<'a>(exchange: &Exchange<'_, 'a>, peer_as: PeerAs, over: Over) -> Said<'a>
     ensures { IsSaidBy exchange.now peer_as over.under over.explained result }
 {
     match over.explained {
@@ -158,9 +167,12 @@ fn said_of(exchange: &Exchange<'_, '_>, peer_as: PeerAs, over: Over) -> Said
             under: over.under,
         }),
         Explained::Only(before) => match exchange.sent.get(before) {
-            Some(message) => Said::NoOrder(Unexplained {
-                before,
-                packet: message.packet,
+            Some(message) => Said::NoOrder(NoOrder {
+                unexplained: Unexplained {
+                    before,
+                    packet: message.packet,
+                },
+                message: *message,
             }),
             None => Said::Neither,
         },
@@ -169,11 +181,11 @@ fn said_of(exchange: &Exchange<'_, '_>, peer_as: PeerAs, over: Over) -> Said
 }
 
 /// Returns what all orders of the end's messages say, the connection framed so.
-pub(crate) fn search_end<A: Allocator + Copy>(
+pub(crate) fn search_end<'a, A: Allocator + Copy>(
     alloc: A,
-    viewed: &Viewed<'_>,
+    viewed: &Viewed<'a>,
     framings: Framings,
-) -> Result<Said, AllocError>
+) -> Result<Said<'a>, AllocError>
     requires received { IsCovered viewed.now.connection.received }
     requires sent { IsCovered viewed.now.connection.sent }
     ensures { IfOk result (λ said. IsClocked viewed.now.connection → IsSaid viewed.now.session

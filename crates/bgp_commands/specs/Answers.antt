@@ -23,6 +23,8 @@ use Rattle.bgp_tool.specs.declared.front.WithFront.{WithFront}
 use Rattle.bgp_tool.specs.declared.note.CaptureCommand.{CaptureCommand}
 use Rattle.bgp_tool.specs.declared.note.CaptureCommand.TheVariants as commands
 use Rattle.bgp_tool.specs.declared.note.Note.{Note}
+use Rattle.bgp_tool.specs.declared.stream_options.StreamOptions.{StreamOptions}
+use Rattle.bgp_lines.specs.declared.form.LineForm.{LineForm}
 use Rattle.bgp_tool.specs.declared.opened.Outcome.{Outcome}
 use Rattle.bgp_explain.specs.declared.report.Report.{Report}
 use Rattle.bgp_explain.specs.declared.report.Report.TheVariants.{VerdictAlone, WithReason}
@@ -39,7 +41,7 @@ use Rattle.bgp_list.specs.Recording.{ListsRecording}
 use Rattle.bgp_list.specs.declared.capture.ListedCapture.{ListedCapture}
 use Rattle.bgp_list.specs.declared.listed.ListedRecording.{ListedRecording}
 use Rattle.bgp_check_text.specs.declared.settings.Settings.{Settings}
-use Rattle.bgp_check_text.specs.declared.settings.Settings.TheVariants.{Always, UnlessYes}
+use Rattle.bgp_check_text.specs.declared.settings.Settings.TheVariants.{Always, Never}
 use Rattle.bgp_check_tool.specs.Checking.{ChecksRecording}
 use Rattle.bgp_check_tool.specs.Printed as recordings
 use Rattle.bgp_check_tool.specs.declared.checking.CheckedRecording.{CheckedRecording}
@@ -62,9 +64,13 @@ use Rattle.bgp_commands.specs.declared.ends.Ends.{Ends}
 
 -- ---- commands
 
+-- how a stream is read and told
+abbrev pub stream_options : LineForm → Bool → StreamOptions
+stream_options form extended = record { limit = limit_with extended; form = form }
+
 -- the file that a command reads, or else the one that it writes
 abbrev pub file_of : Command → Bor (List ℕ)
-file_of (words.Decode extended file) = file
+file_of (words.Decode form extended file) = file
 file_of (words.Capture session recording file) = file
 file_of (words.Judge config recording explain file) = file
 file_of (words.Import session recording file out) = file
@@ -75,7 +81,7 @@ file_of (words.Pair file) = file
 
 -- a command reads a file
 abbrev pub reads_file : Command → Bool
-reads_file (words.Decode extended file) = true
+reads_file (words.Decode form extended file) = true
 reads_file (words.Capture session recording file) = true
 reads_file (words.Judge config recording explain file) = true
 reads_file (words.Import session recording file out) = true
@@ -86,7 +92,7 @@ reads_file (words.Pair file) = false
 
 -- a command is an import of a file to itself
 abbrev pub IsOneName : Command → Type 0
-IsOneName (words.Decode extended file) = ⊥
+IsOneName (words.Decode form extended file) = ⊥
 IsOneName (words.Capture session recording file) = ⊥
 IsOneName (words.Judge config recording explain file) = ⊥
 IsOneName (words.Import session recording file out) =
@@ -102,7 +108,7 @@ abbrev pub report_with : Bool → Report
 report_with explain = if explain then WithReason else VerdictAlone
 
 abbrev pub settings_with : Bool → Settings
-settings_with settings = if settings then Always else UnlessYes
+settings_with settings = if settings then Always else Never
 
 abbrev pub check_options : ℕ → ℕ → Bool → Bool → CheckOptions
 check_options port within routes settings = record {
@@ -299,9 +305,9 @@ module _ {R W X : Type 0} (may_lack : Config → List ShownRecord → ShownRecor
     (remaining : R → Option (List ℕ)) (contents : W → Option (List ℕ)) (reader : R)
     (old new : FromWrite W) (answer : Answer X) where
   abbrev pub Answers : Command → Type 0
-  Answers (words.Decode extended file) = (outcome : Outcome)
+  Answers (words.Decode form extended file) = (outcome : Outcome)
       × ((answer ≡ answers.Ended outcome)
-      × DecodesReader (limit_with extended) remaining contents file reader (writer_state old)
+      × DecodesReader (stream_options form extended) remaining contents file reader (writer_state old)
       (writer_state new) outcome)
   Answers (words.Capture session recording file) = (outcome : FileOutcome X)
       × ((answer ≡ answers.Read outcome)

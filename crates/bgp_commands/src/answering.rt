@@ -5,8 +5,8 @@ ghost use Rattle.mrt.specs.FromWrite.{writer_state};
 ghost use Rattle.bgp_tool.specs.Opened.{DecodesReader};
 ghost use Rattle.bgp_recording_tool.specs.Files.{DecodesFile, JudgesFile};
 ghost use Rattle.bgp_words.specs.Import.{CanImport};
-ghost use Rattle.bgp_wire.specs.Header.{limit_with};
 ghost use Rattle.bgp_commands.specs.Answers.{Answers, AnswersTo, IsOneName, report_with};
+ghost use Rattle.bgp_commands.specs.Answers.{stream_options};
 ghost use Rattle.bgp_commands.specs.Answers as specs;
 ghost use Rattle.bgp_commands.specs.Sentences.{sentences_of, status_of};
 ghost use Rattle.bgp_commands.specs.declared.answer.Answer.{Answer as Given};
@@ -20,10 +20,11 @@ use bgp_check_tool::CheckOptions;
 use bgp_explain::Report;
 use bgp_import::RecordingOptions;
 use bgp_judge::Tracker;
+use bgp_lines::LineForm;
 use bgp_open::Config;
 use bgp_prefix::Session;
 use bgp_recording_tool::{FileOutcome, decode_file, judge_file};
-use bgp_tool::{Outcome, Ready, decode_opened, unopened};
+use bgp_tool::{Outcome, Ready, StreamOptions, decode_opened, unopened};
 use bgp_wire::Limit;
 use bgp_words::Command;
 use mrt::FromWrite;
@@ -135,9 +136,11 @@ fn answer_from<'a, A: Allocator + Copy, T: Tracker<A>, R: Read + Ready + Drop, W
         command.now }
 {
     match *command {
-        Command::Decode { extended, file } => {
-            Answer::Ended(decode(alloc, extended, file, reader, sink))
-        }
+        Command::Decode {
+            form,
+            extended,
+            file,
+        } => Answer::Ended(decode(alloc, form, extended, file, reader, sink)),
         Command::Capture {
             session,
             recording,
@@ -177,20 +180,24 @@ fn answer_from<'a, A: Allocator + Copy, T: Tracker<A>, R: Read + Ready + Drop, W
     }
 }
 
-/// Decodes a stream, whose messages may be extended ones or not.
+/// Decodes a stream, whose messages may be extended ones or not, in a form.
 fn decode<'a, A: Allocator + Copy, R: Read + Drop, W: Write>(
     alloc: A,
+    form: LineForm,
     extended: bool,
     file: &'a str,
     reader: R,
     sink: &mut FromWrite<W>,
 ) -> Outcome<'a>
     requires { (writer_state sink.old).failures < 2 ^ 63 }
-    ensures { DecodesReader (limit_with extended) R.remaining W.contents file.entry reader
+    ensures { DecodesReader (stream_options form extended) R.remaining W.contents file.entry reader
         (writer_state sink.old) (writer_state sink.new) result }
 {
-    let limit = Limit::with_extended(extended);
-    decode_opened(limit, alloc, file, Ok(reader), sink)
+    let options = StreamOptions {
+        limit: Limit::with_extended(extended),
+        form,
+    };
+    decode_opened(options, alloc, file, Ok(reader), sink)
 }
 
 /// Decodes the records of one session.

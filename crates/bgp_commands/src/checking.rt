@@ -16,15 +16,14 @@ use mrt::{FromRead, FromWrite, Sink};
 use std::alloc::Allocator;
 use std::io::{Read, Write};
 
-/// Returns after which verdicts the options of `bgp judge` are printed: after each, or not after a
-/// yes.
+/// Returns whether the options of `bgp judge` are printed after the verdicts.
 pub(crate) fn settings_with(settings: bool) -> Settings
     ensures { result ≡ specs.settings_with settings }
 {
     if settings {
         Settings::Always
     } else {
-        Settings::UnlessYes
+        Settings::Never
     }
 }
 

@@ -9,10 +9,14 @@ pub mod LastReceived
 pub mod NextRecord
 pub mod Saying
 mod Confederations
+mod FirstSecond
 pub mod Telling
 pub mod Reported
 pub mod LackedText
+mod WholeSent
+pub mod Captured
 pub mod Naming
 pub mod OnePossible
+pub mod OneMoments
 pub mod OneReason
 pub mod OneText

@@ -1,6 +1,6 @@
 -- What is explained has one text.
-use Rattle.std.proofs.Common.{◌≡◌, ◌∙◌, ◌≤◌, ◌+◌, ◌++◌, ◌∷◌, ℕ, zero, suc, true, false, IsTrue, is_some, List, [], Option, None, Some, codes, length, take, refl, sym, ap, subst, inl, inr}
-use Rattle.bgp_prefix.specs.Shown.{ShownRecord, Received, Sent, Changed}
+use Rattle.std.proofs.Common.{◌≡◌, ◌∙◌, ◌≤◌, ◌+◌, ◌++◌, ◌∷◌, ℕ, zero, suc, true, false, IsTrue, is_some, List, [], Option, None, Some, codes, length, take, refl, sym, ap, subst, inl, inr, arith}
+use Rattle.bgp_prefix.specs.Shown.{ShownRecord, Received, Sent, Changed, second_of}
 use Rattle.bgp_prefix.specs.declared.session.Session.{Session}
 use Rattle.bgp_wire.specs.declared.header.HeaderFaults.{HeaderFaults}
 use Rattle.bgp_wire.specs.declared.header.Limit.{Limit}
@@ -9,6 +9,8 @@ use Rattle.bgp_wire.specs.Verdict.{AreFaults}
 use Rattle.bgp_wire.proofs.OneFaultSet.{same_fields}
 use Rattle.bgp_open.specs.declared.config.Config.{Config}
 use Rattle.bgp_open.specs.declared.link.Link.{Link}
+use Rattle.bgp_open.specs.declared.route_offer.RouteOffer.{RouteOffer}
+use Rattle.bgp_open.specs.RouteOffer.{IsRouteOffer}
 use Rattle.bgp_update.specs.Subcodes.{SubcodesAreSets}
 use Rattle.mrt.specs.Capture.{ArePieces, Piece, Other, OtherEnds, PassedOver, Shown, Spells, last_after, records_of, shown_of}
 use Rattle.mrt.specs.CaptureLaws.{EachAllowed}
@@ -23,106 +25,181 @@ use Rattle.bgp_reason.specs.declared.kinds.Possible.{Possible}
 use Rattle.bgp_reason.specs.declared.told.Told.{Told}
 use Rattle.bgp_reason.specs.Sending.{sending_link}
 use Rattle.bgp_reason.specs.Told.{last_from, last_message, nothing_told, told, told_by_change, told_from, told_with}
-use Rattle.bgp_text.specs.Capture.{IsMessageText, IsRecordText, faulty_text, message_text}
-use Rattle.bgp_text.specs.Text.{text_of}
-use Rattle.bgp_text.proofs.OneMessage.{one_message}
-use Rattle.bgp_reason_text.specs.declared.notes.Notes.{Notes}
-use Rattle.bgp_reason_text.specs.Notes.{judged_without, notes_text}
-use Rattle.bgp_reason_text.specs.NotWhole.{not_whole_line}
-use Rattle.bgp_reason_text.specs.Record.{form_on, state_line}
-use Rattle.bgp_tool.specs.Judging.{SaysVerdict}
-use Rattle.bgp_open.specs.declared.route_offer.RouteOffer.{RouteOffer}
-use Rattle.bgp_open.specs.RouteOffer.{IsRouteOffer}
-use Rattle.bgp_open.specs.declared.route_form.RouteForm.{RouteForm}
-use Rattle.bgp_parts.proofs.ReadableOpen.{readable_or_not}
-use Rattle.bgp_explain.specs.declared.left_out.LeftOut.{LeftOut}
-use Rattle.bgp_explain.specs.LeftOut.{IsLeftOut, IsWithout, LeavesOut}
+use Rattle.bgp_reason.proofs.OneForAll.{one_code, one_detail, one_subcode}
 use Rattle.bgp_parts.proofs.OneOwnOpen.{one_own}
-use Rattle.bgp_reason_text.specs.declared.style.Style.{Style}
-use Rattle.bgp_reason_text.specs.Style.{plain}
-use Rattle.bgp_explain.specs.Capture.{HasOneText, SaysExplained, SaysMore, TellsWhy, TellsWhyNot}
-use Rattle.bgp_explain.specs.declared.places.Place.{Place}
-use Rattle.bgp_explain.specs.Places.{counted_places}
-use Rattle.bgp_explain.specs.Skipped.{skipped_of}
+use Rattle.bgp_parts.proofs.ReadableOpen.{readable_or_not}
+use Rattle.bgp_text.proofs.OneMessage.{one_message}
+use Rattle.bgp_tool.specs.Judging.{SaysVerdict}
+use Rattle.bgp_values.specs.declared.opens.Reading.{Reading}
+use Rattle.bgp_lines.specs.Form.{IsNamedMessage}
+use Rattle.bgp_lines.specs.MessageLine.{named_text}
+use Rattle.bgp_lines.specs.Others.{named_fault}
+use Rattle.bgp_why.specs.declared.endpoint.Endpoint.{Endpoint}
+use Rattle.bgp_why.specs.declared.notes.Notes.{Notes}
+use Rattle.bgp_why.specs.declared.place.Place.{Place}
+use Rattle.bgp_why.specs.declared.state.SentAlready.{SentAlready}
+use Rattle.bgp_why.specs.declared.style.Style.{Style}
+use Rattle.bgp_why.specs.Deed.{form_on, peer_of, received_deed, record_line, sent_deed}
+use Rattle.bgp_why.specs.Lacks.{IsWholeOf}
+use Rattle.bgp_why.specs.MessageLine.{message_line}
+use Rattle.bgp_why.specs.NoteLines.{note_lines}
+use Rattle.bgp_why.specs.Notes.{judged_without}
+use Rattle.bgp_why.specs.NotWhole.{not_whole_line}
+use Rattle.bgp_why.specs.State.{already_line, state_line}
+use Rattle.bgp_explain.specs.declared.left_out.LeftOut.{LeftOut}
+use Rattle.bgp_explain.specs.declared.moments.Moments.{Moments}
+use Rattle.bgp_explain.specs.declared.moments.SentNotification.{SentNotification}
 use Rattle.bgp_explain.specs.declared.skipped.Skipped.{Skipped}
+use Rattle.bgp_explain.specs.declared.why.Why.{Why}
+use Rattle.bgp_explain.specs.Capture.{HasOneText, IsAtFault, SaysExplained, SaysMore, TellsWhy, TellsWhyNot, judge_style}
+use Rattle.bgp_explain.specs.Deed.{IsDeedOn}
+use Rattle.bgp_explain.specs.Lacked.{Lacked, RecordLacks, lacked_cause}
+use Rattle.bgp_explain.specs.LeftOut.{IsLeftOut, IsWithout, LeavesOut}
 use Rattle.bgp_explain.specs.Offers.{IsOfferOf, settling_open}
-use Rattle.bgp_explain.specs.Text.{AreNotesOf, AreNotesOn, IsWhy, line_at, received_text, teller}
+use Rattle.bgp_explain.specs.Places.{counted_places, named_place}
+use Rattle.bgp_explain.specs.SentLine.{IsErrorLine, IsLineOf, IsOctetsLine, IsSentLine, error_line, sent_reading}
+use Rattle.bgp_explain.specs.Skipped.{skipped_of}
+use Rattle.bgp_explain.specs.Why.{AreNotesOf, AreNotesOn, AreWhy, IsAlready, IsAlreadyBy, IsCaptured, IsWhy, another_line, may_come, why_text}
+use Rattle.bgp_explain.proofs.Captured.{frame_or_faulty}
+use Rattle.bgp_explain.proofs.OneMoments.{one_moments}
 use Rattle.bgp_explain.proofs.OnePossible.{same, same_possible}
-use Rattle.bgp_explain.proofs.OneReason.{one_asking, one_lack, one_received, one_unwhole}
+use Rattle.bgp_explain.proofs.OneReason.{IsAlike, alike_cause, alike_lines, one_asking, one_lack, one_name, one_received, one_record_lacks, one_unwhole}
 
--- ---- each message of a capture has a header
+-- ---- each message of a capture is a frame, or begins with a faulty header
 
-abbrev EachHasAHeader : List ShownRecord → Type 0
-EachHasAHeader [] = Unit {0}
-EachHasAHeader (Received t octets ∷ records) = (19 ≤ length octets) × EachHasAHeader records
-EachHasAHeader (Sent t octets ∷ records) = EachHasAHeader records
-EachHasAHeader (Changed t x y ∷ records) = EachHasAHeader records
+module _ (config : Config) where
+  abbrev EachIsCaptured : List ShownRecord → Type 0
+  EachIsCaptured [] = Unit {0}
+  EachIsCaptured (Received t octets ∷ records) = IsCaptured config octets × EachIsCaptured records
+  EachIsCaptured (Sent t octets ∷ records) = EachIsCaptured records
+  EachIsCaptured (Changed t x y ∷ records) = EachIsCaptured records
 
-with_one : (session : Session) (last : Option ℕ) (r : ShownRecord) (records : List ShownRecord) → IsAllowed session last r → EachHasAHeader records → EachHasAHeader (r ∷ records)
-with_one session last (Received t octets) records allowed rest = (allowed.0.0, rest)
-with_one session last (Sent t octets) records allowed rest = rest
-with_one session last (Changed t x y) records allowed rest = rest
+  with_one : (last : Option ℕ) (r : ShownRecord) (records : List ShownRecord) → IsAllowed config.parts.session last r → EachIsCaptured records → EachIsCaptured (r ∷ records)
+  with_one last (Received t octets) records allowed rest =
+      (frame_or_faulty (limit_with config.parts.session.extended) octets allowed.0.0 allowed.0.3, rest)
+  with_one last (Sent t octets) records allowed rest = rest
+  with_one last (Changed t x y) records allowed rest = rest
 
-headers_of : EachAllowed → (session : Session) (last : Option ℕ) (pieces : List Piece) → ArePieces session last pieces → EachHasAHeader (records_of pieces)
-headers_of law session last [] are = tt
-headers_of law session last (Other octets ∷ pieces) are = headers_of law session (last_after last (Other octets)) pieces are.1
-headers_of law session last (OtherEnds octets ∷ pieces) are = headers_of law session (last_after last (OtherEnds octets)) pieces are.1
-headers_of law session last (PassedOver octets ∷ pieces) are = headers_of law session (last_after last (PassedOver octets)) pieces are.1
-headers_of law session last (Shown octets ∷ pieces) are =
-    with_one session last (shown_of octets) (records_of pieces) (law session last octets are.0) (headers_of law session (last_after last (Shown octets)) pieces are.1)
+  each_captured : EachAllowed → (last : Option ℕ) (pieces : List Piece) → ArePieces config.parts.session last pieces → EachIsCaptured (records_of pieces)
+  each_captured law last [] are = tt
+  each_captured law last (Other octets ∷ pieces) are = each_captured law (last_after last (Other octets)) pieces are.1
+  each_captured law last (OtherEnds octets ∷ pieces) are = each_captured law (last_after last (OtherEnds octets)) pieces are.1
+  each_captured law last (PassedOver octets ∷ pieces) are = each_captured law (last_after last (PassedOver octets)) pieces are.1
+  each_captured law last (Shown octets ∷ pieces) are =
+      with_one last (shown_of octets) (records_of pieces) (law config.parts.session last octets are.0) (each_captured law (last_after last (Shown octets)) pieces are.1)
 
-first_headers : (n : ℕ) (records : List ShownRecord) → EachHasAHeader records → EachHasAHeader (take n records)
-first_headers zero records h = tt
-first_headers (suc n) [] h = tt
-first_headers (suc n) (Received t octets ∷ records) h = (h.0, first_headers n records h.1)
-first_headers (suc n) (Sent t octets ∷ records) h = first_headers n records h
-first_headers (suc n) (Changed t x y ∷ records) h = first_headers n records h
+  first_captured : (n : ℕ) (records : List ShownRecord) → EachIsCaptured records → EachIsCaptured (take n records)
+  first_captured zero records h = tt
+  first_captured (suc n) [] h = tt
+  first_captured (suc n) (Received t octets ∷ records) h = (h.0, first_captured n records h.1)
+  first_captured (suc n) (Sent t octets ∷ records) h = first_captured n records h
+  first_captured (suc n) (Changed t x y ∷ records) h = first_captured n records h
 
--- where a message is told it has a header
-abbrev IsHeaded : Told → List ℕ → Type 0
-IsHeaded t last = IsTrue (is_some t.last_received) → 19 ≤ length last
+  -- where a message is told it is such a one
+  abbrev IsHeard : Told → List ℕ → Type 0
+  IsHeard t last = IsTrue (is_some t.last_received) → IsCaptured config last
 
-never : false ≡ true → ⊥
-never e = cc
+  never : false ≡ true → ⊥
+  never e = cc
 
-by_change : (number : ℕ) (o : Option Fsm) (t : Told) (last : List ℕ) → IsHeaded t last → IsHeaded (told_by_change number o t) last
-by_change number None t last h = h
-by_change number (Some fsms.Idle) t last h = λ some. absurd (never some)
-by_change number (Some fsms.Connect) t last h = h
-by_change number (Some fsms.Active) t last h = h
-by_change number (Some fsms.OpenSent) t last h = h
-by_change number (Some fsms.OpenConfirm) t last h = h
-by_change number (Some fsms.Established) t last h = h
+  by_change : (number : ℕ) (o : Option Fsm) (t : Told) (last : List ℕ) → IsHeard t last → IsHeard (told_by_change number o t) last
+  by_change number None t last h = h
+  by_change number (Some fsms.Idle) t last h = λ some. absurd (never some)
+  by_change number (Some fsms.Connect) t last h = h
+  by_change number (Some fsms.Active) t last h = h
+  by_change number (Some fsms.OpenSent) t last h = h
+  by_change number (Some fsms.OpenConfirm) t last h = h
+  by_change number (Some fsms.Established) t last h = h
 
-headed_from : (n : ℕ) (t : Told) (last : List ℕ) (records : List ShownRecord) → EachHasAHeader records → IsHeaded t last → IsHeaded (told_from n t records) (last_from last records)
-headed_from n t last [] each h = h
-headed_from n t last (Received second octets ∷ records) each h = headed_from (n + 1) (told_with (n + 1) (Received second octets) t) octets records each.1 (λ some. each.0)
-headed_from n t last (Sent second octets ∷ records) each h = headed_from (n + 1) t last records each h
-headed_from n t last (Changed second x y ∷ records) each h =
-    headed_from (n + 1) (told_with (n + 1) (Changed second x y) t) last records each (by_change (n + 1) (fsm_at y) t last h)
+  heard_from : (n : ℕ) (t : Told) (last : List ℕ) (records : List ShownRecord) → EachIsCaptured records → IsHeard t last → IsHeard (told_from n t records) (last_from last records)
+  heard_from n t last [] each h = h
+  heard_from n t last (Received second octets ∷ records) each h =
+      heard_from (n + 1) (told_with (n + 1) (Received second octets) t) octets records each.1 (λ some. each.0)
+  heard_from n t last (Sent second octets ∷ records) each h = heard_from (n + 1) t last records each h
+  heard_from n t last (Changed second x y ∷ records) each h =
+      heard_from (n + 1) (told_with (n + 1) (Changed second x y) t) last records each (by_change (n + 1) (fsm_at y) t last h)
 
-headed : (records : List ShownRecord) → EachHasAHeader records → IsHeaded (told records) (last_message records)
-headed records each = headed_from 0 nothing_told [] records each (λ some. absurd (never some))
+  heard : (records : List ShownRecord) → EachIsCaptured records → IsHeard (told records) (last_message records)
+  heard records each = heard_from 0 nothing_told [] records each (λ some. absurd (never some))
 
--- ---- the line of a record
+-- what is named stands somewhere only if it is named
+named_so : (places : ℕ → ℕ → Place) (named second : Option ℕ) → IsTrue (is_some (named_place places named second)) → IsTrue (is_some named)
+named_so places None second some = some
+named_so places (Some n) second some = refl
 
-module _ (form : RouteForm) (limit : Limit) where
-  one_faulty_text : (header : List ℕ) (a b : HeaderFaults) → AreFaults limit header a → AreFaults limit header b → faulty_text a ≡ faulty_text b
-  unfolding faulty_text
-  one_faulty_text header a b h k = let e = same_fields limit header a b h k in rw (e.0, e.1, e.2) refl
+-- ---- the line of a message that was sent
 
-  one_message_text : (octets text other : List ℕ) → IsMessageText form limit octets text → IsMessageText form limit octets other → text ≡ other
-  one_message_text octets text other (inl a) (inl b) = a.1.2 ∙ ap text_of (one_message form octets a.1.0 b.1.0 a.1.1 b.1.1) ∙ sym b.1.2
-  one_message_text octets text other (inl a) (inr b) = absurd (b.0.1 a.0.sound)
-  one_message_text octets text other (inr a) (inl b) = absurd (a.0.1 b.0.sound)
-  one_message_text octets text other (inr a) (inr b) = a.1.2 ∙ one_faulty_text (header_of octets) a.1.0 b.1.0 a.1.1 b.1.1 ∙ sym b.1.2
+one_fault_text : (limit : Limit) (octets : List ℕ) (x y : HeaderFaults) → AreFaults limit (header_of octets) x → AreFaults limit (header_of octets) y → named_fault x octets ≡ named_fault y octets
+unfolding named_fault
+one_fault_text limit octets x y h k = let e = same_fields limit (header_of octets) x y h k in rw (e.0, e.1, e.2) refl
 
-one_record_text : (session : Session) (form : RouteForm) (shown : ShownRecord) (text other : List ℕ) → IsRecordText session form shown text → IsRecordText session form shown other → text ≡ other
-one_record_text session form (Received t octets) text other h k =
-    h.2 ∙ ap (message_text t (codes " received ")) (one_message_text form (limit_with session.extended) octets h.0 k.0 h.1 k.1) ∙ sym k.2
-one_record_text session form (Sent t octets) text other h k =
-    h.2 ∙ ap (message_text t (codes " sent ")) (one_message_text form (limit_with session.extended) octets h.0 k.0 h.1 k.1) ∙ sym k.2
-one_record_text session form (Changed t x y) text other h k = h ∙ sym k
+one_words : (reading : Reading) (limit : Limit) (octets text other : List ℕ) → IsNamedMessage reading limit octets text → IsNamedMessage reading limit octets other → text ≡ other
+one_words reading limit octets text other (inl a) (inl b) =
+    a.1.2 ∙ ap (named_text reading octets) (one_message reading.form octets a.1.0 b.1.0 a.1.1 b.1.1) ∙ sym b.1.2
+one_words reading limit octets text other (inl a) (inr b) = absurd (b.0.1 a.0.sound)
+one_words reading limit octets text other (inr a) (inl b) = absurd (a.0.1 b.0.sound)
+one_words reading limit octets text other (inr a) (inr b) =
+    a.1.2 ∙ one_fault_text limit octets a.1.0 b.1.0 a.1.1 b.1.1 ∙ sym b.1.2
+
+one_error : (octets text other : List ℕ) → IsErrorLine octets text → IsErrorLine octets other → text ≡ other
+one_error octets text other (a, h, x) (b, k, y) =
+    let e = sym h.body ∙ k.body in
+    let code = one_code a.code a.subcode b.code b.subcode a.detail b.detail e in
+    let subcode = one_subcode a.code a.subcode b.code b.subcode a.detail b.detail e in
+    let detail = one_detail a.code a.subcode b.code b.subcode a.detail b.detail e in
+    let same : a ≡ b = λ i. record { code = code i; subcode = subcode i; detail = detail i } in
+    x ∙ ap error_line same ∙ sym y
+
+of_two : (limit : Limit) (octets : List ℕ) → IsWholeOf limit 4 octets → IsWholeOf limit 3 octets → ⊥
+of_two limit octets h k = let e = sym h.1 ∙ k.1 in omega (arith, e)
+
+one_octets_line : (reading : Reading) (limit : Limit) (octets text other : List ℕ) → IsOctetsLine reading limit octets text → IsOctetsLine reading limit octets other → text ≡ other
+one_octets_line reading limit octets text other (inl a) (inl b) = a.1 ∙ sym b.1
+one_octets_line reading limit octets text other (inl a) (inr (inl b)) = absurd (of_two limit octets a.0 b.0)
+one_octets_line reading limit octets text other (inl a) (inr (inr b)) = absurd (b.0 a.0)
+one_octets_line reading limit octets text other (inr (inl a)) (inl b) = absurd (of_two limit octets b.0 a.0)
+one_octets_line reading limit octets text other (inr (inl a)) (inr (inl b)) = one_error octets text other a.1 b.1
+one_octets_line reading limit octets text other (inr (inl a)) (inr (inr b)) = absurd (b.1 a.0)
+one_octets_line reading limit octets text other (inr (inr a)) (inl b) = absurd (a.0 b.0)
+one_octets_line reading limit octets text other (inr (inr a)) (inr (inl b)) = absurd (a.1 b.0)
+one_octets_line reading limit octets text other (inr (inr a)) (inr (inr b)) =
+    a.2.2 ∙ ap message_line (one_words reading limit octets a.2.0 b.2.0 a.2.1 b.2.1) ∙ sym b.2.2
+
+one_line_of : (config : Config) (session : Session) (link : Option Link) (shown : ShownRecord) (text other : List ℕ) → IsLineOf config session link shown text
+    → IsLineOf config session link shown other → text ≡ other
+one_line_of config session link (Received t octets) text other h k = h ∙ sym k
+one_line_of config session link (Sent t octets) text other h k = one_octets_line (sent_reading config link) (limit_with session.extended) octets text other h k
+one_line_of config session link (Changed t x y) text other h k = h ∙ sym k
+
+one_sent_line : (config : Config) (session : Session) (link : Option Link) (next : Option (ℕ × ShownRecord)) (text other : List ℕ) → IsSentLine config session link next text
+    → IsSentLine config session link next other → text ≡ other
+one_sent_line config session link None text other h k = h ∙ sym k
+one_sent_line config session link (Some next) text other h k = one_line_of config session link next.1 text other h k
+
+-- ---- what a record shows was done
+
+one_deed : (session : Session) (peer : Endpoint) (link : Option Link) (shown : ShownRecord) (text other : List ℕ) → IsDeedOn session peer link shown text
+    → IsDeedOn session peer link shown other → text ≡ other
+one_deed session peer link (Received t octets) text other h k =
+    h.2 ∙ ap (received_deed peer) (one_name (form_on link (Received t octets)) (limit_with session.extended) octets h.0 k.0 h.1 k.1) ∙ sym k.2
+one_deed session peer link (Sent t octets) text other h k =
+    h.2 ∙ ap (sent_deed peer) (one_name (form_on link (Sent t octets)) (limit_with session.extended) octets h.0 k.0 h.1 k.1) ∙ sym k.2
+one_deed session peer link (Changed t x y) text other h k = h ∙ sym k
+
+-- ---- what was sent already
+
+one_already_by : (places : ℕ → ℕ → Place) (link : Option Link) (shown : ShownRecord) (last : SentNotification) (a b : Option SentAlready) → IsAlreadyBy places link shown last a
+    → IsAlreadyBy places link shown last b → a ≡ b
+one_already_by places link shown last None None h k = refl
+one_already_by places link shown last None (Some b) h k = absurd (h k.0)
+one_already_by places link shown last (Some a) None h k = absurd (k h.0)
+one_already_by places link shown last (Some a) (Some b) h k = ap Some (h.1 ∙ sym k.1)
+
+one_already : (places : ℕ → ℕ → Place) (link : Option Link) (last : Option SentNotification) (next : Option (ℕ × ShownRecord)) (a b : Option SentAlready)
+    → IsAlready places link last next a → IsAlready places link last next b → a ≡ b
+one_already places link last None a b h k = h ∙ sym k
+one_already places link None (Some next) a b h k = h ∙ sym k
+one_already places link (Some last) (Some next) a b h k = one_already_by places link next.1 last a b h k
 
 -- ---- the notes
 
@@ -130,6 +207,7 @@ module _ (config : Config) (t : Told) (link : Option Link) (octets : List ℕ) (
   with_notes : (next : Option (ℕ × ShownRecord)) (u : LeftOut) (a b : Notes) → AreNotesOn config t link octets p next a → AreNotesOn config t link octets p next b
       → judged_without u.without a ≡ judged_without u.without b
   with_notes None u a b h k =
+      let refused = h.may_be_refused ∙ sym k.may_be_refused in
       let elsewhere = h.begins_elsewhere ∙ sym k.begins_elsewhere in
       let first = h.open_came_first ∙ sym k.open_came_first in
       let parameters = same _ a.extended_parameters b.extended_parameters h.extended_parameters k.extended_parameters in
@@ -137,6 +215,7 @@ module _ (config : Config) (t : Told) (link : Option Link) (octets : List ℕ) (
       let ended = h.may_have_ended ∙ sym k.may_have_ended in
       let missing = h.may_be_missing ∙ sym k.may_be_missing in
       λ i. record {
+        may_be_refused = refused i;
         begins_elsewhere = elsewhere i;
         open_came_first = first i;
         without = u.without;
@@ -146,6 +225,7 @@ module _ (config : Config) (t : Told) (link : Option Link) (octets : List ℕ) (
         may_be_missing = missing i;
       }
   with_notes (Some next) u a b h k =
+      let refused = h.may_be_refused ∙ sym k.may_be_refused in
       let elsewhere = same _ a.begins_elsewhere b.begins_elsewhere h.begins_elsewhere k.begins_elsewhere in
       let first = same _ a.open_came_first b.open_came_first h.open_came_first k.open_came_first in
       let parameters = same _ a.extended_parameters b.extended_parameters h.extended_parameters k.extended_parameters in
@@ -153,6 +233,7 @@ module _ (config : Config) (t : Told) (link : Option Link) (octets : List ℕ) (
       let ended = same _ a.may_have_ended b.may_have_ended h.may_have_ended k.may_have_ended in
       let missing = same _ a.may_be_missing b.may_be_missing h.may_be_missing k.may_be_missing in
       λ i. record {
+        may_be_refused = refused i;
         begins_elsewhere = elsewhere i;
         open_came_first = first i;
         without = u.without;
@@ -197,42 +278,80 @@ one_left_out config records a b h k =
 
 -- ---- why
 
-module _ (sets : SubcodesAreSets) (config : Config) where
-  one_is_why : (style : Style) (places : ℕ → Place) (t : Told) (link : Option Link) (u : LeftOut) (octets : List ℕ) (p : Possible) (next : Option (ℕ × ShownRecord)) (text other : List ℕ) → IsHeaded t octets
-      → IsWhy config style places t link u octets p next text → IsWhy config style places t link u octets p next other → text ≡ other
-  one_is_why style places t link u octets p next text other whole h k =
-      let received = one_received config octets places t t.last_received h.received k.received h.is_received k.is_received whole in
-      let line = ap (λ r. received_text style r h.asking) received ∙ one_asking sets style config t link octets k.received h.asking k.asking h.is_asked k.is_asked in
-      let unwhole = one_unwhole link next h.unwhole k.unwhole h.is_unwhole k.is_unwhole in
-      let following = one_lack style config link p next h.lacked k.lacked h.are_lacks k.are_lacks in
-      let notes = one_notes config t link octets p next u h.notes k.notes h.are_notes k.are_notes in
-      h.whole ∙ (λ i. state_line style t.state (teller places t) ++ (line i ++ (not_whole_line style (unwhole i) ++ (following i ++ notes_text style (notes i))))) ∙ sym k.whole
+module _ (config : Config) (places : ℕ → ℕ → Place) (t : Told) (m : Moments) (link : Option Link) (u : LeftOut) (octets : List ℕ) (p : Possible)
+    (next : Option (ℕ × ShownRecord)) where
+  one_all : (a b : Why) → IsHeard config t octets → AreWhy config places t m link u octets p next a → AreWhy config places t m link u octets p next b → a ≡ b
+  one_all a b whole h k =
+      let place = named_place places t.last_received m.last_received in
+      let since = h.since ∙ sym k.since in
+      let received = one_received config octets link t place a.received b.received h.received k.received
+      (λ some. whole (named_so places t.last_received m.last_received some)) in
+      let unwhole = one_unwhole link next a.unwhole b.unwhole h.unwhole k.unwhole in
+      let already = one_already places link m.notification next a.already b.already h.already k.already in
+      let notes = one_notes config t link octets p next u a.notes b.notes h.notes k.notes in
+      λ i. record { since = since i; received = received i; unwhole = unwhole i; already = already i; notes = notes i }
 
-  one_why : (style : Style) (places : ℕ → Place) (records : List ShownRecord) (next : Option (ℕ × ShownRecord)) (text other : List ℕ) → EachHasAHeader records → TellsWhy config style places records next text
-      → TellsWhy config style places records next other → text ≡ other
-  one_why style places records next text other each h k =
+may_come_once : (style : Style) (p : Possible) (next : Option (ℕ × ShownRecord)) (a b : Lacked) → IsAlike a b → may_come style next p a ≡ may_come style next p b
+may_come_once style p None a b is = refl
+may_come_once style p (Some next) a b is = alike_lines p style a b is
+
+module _ (sets : SubcodesAreSets) (config : Config) where
+  one_is_why : (style : Style) (session : Session) (another : Option ℕ) (places : ℕ → ℕ → Place) (t : Told) (m : Moments) (link : Option Link) (u : LeftOut) (octets : List ℕ)
+      (p : Possible) (next : Option (ℕ × ShownRecord)) (text other : List ℕ) → IsHeard config t octets → IsWhy config style session another places t m link u octets p next text
+      → IsWhy config style session another places t m link u octets p next other → text ≡ other
+  one_is_why style session another places t m link u octets p next text other whole h k =
+      let sent = one_sent_line config session link next h.sent k.sent h.is_sent k.is_sent in
+      let why = one_all config places t m link u octets p next h.why k.why whole h.are_why k.are_why in
+      let asks = one_asking sets style config t link octets k.why.received h.asking k.asking h.is_asked k.is_asked in
+      let come = may_come_once style p next h.lacked k.lacked (one_lack config link p next h.lacked k.lacked h.are_lacks k.are_lacks) in
+      let rest = ap (λ (w : Why). why_text style another t.state next p w h.asking h.lacked) why
+      ∙ (λ i. not_whole_line k.why.unwhole ++ (another_line another ++ (state_line style.first t.state k.why.since
+      ++ (asks i ++ (come i ++ (already_line style.first k.why.already ++ note_lines style.is_recording k.why.notes)))))) in
+      h.whole ∙ (λ i. sent i ++ rest i) ∙ sym k.whole
+
+  one_why : (style : Style) (session : Session) (another : Option ℕ) (places : ℕ → ℕ → Place) (records : List ShownRecord) (next : Option (ℕ × ShownRecord))
+      (text other : List ℕ) → EachIsCaptured config records → TellsWhy config style session another places records next text
+      → TellsWhy config style session another places records next other → text ≡ other
+  one_why style session another places records next text other each h k =
       let possible = same_possible config records h.possible k.possible h.asked k.asked h.are k.are h.timely k.timely in
+      let moments = one_moments config records h.moments k.moments h.are_moments k.are_moments in
       let left_out = one_left_out config records h.left_out k.left_out h.leaves_out k.leaves_out in
-      one_is_why style places (told records) (sending_link config records) h.left_out (last_message records) h.possible next text other (headed records each) h.why
-      (subst (λ (v : LeftOut). IsWhy config style places (told records) (sending_link config records) v (last_message records) h.possible next other) (sym left_out)
-      (subst (λ (v : Possible). IsWhy config style places (told records) (sending_link config records) k.left_out (last_message records) v next other) (sym possible) k.why))
+      one_is_why style session another places (told records) h.moments (sending_link config records) h.left_out (last_message records) h.possible next text other
+      (heard config records each) h.why
+      (subst (λ (v : LeftOut). IsWhy config style session another places (told records) h.moments (sending_link config records) v (last_message records) h.possible next other) (sym left_out)
+      (subst (λ (v : Moments). IsWhy config style session another places (told records) v (sending_link config records) k.left_out (last_message records) h.possible next other) (sym moments)
+      (subst (λ (v : Possible). IsWhy config style session another places (told records) k.moments (sending_link config records) k.left_out (last_message records) v next other) (sym possible)
+      k.why)))
+
+  one_fault : (style : Style) (session : Session) (peer : Endpoint) (before : List ShownRecord) (shown : ShownRecord) (deed cause done wrong : List ℕ)
+      → IsAtFault config style session peer before shown deed cause → IsAtFault config style session peer before shown done wrong → (deed ≡ done) × (cause ≡ wrong)
+  one_fault style session peer before shown deed cause done wrong h k =
+      let possible = same_possible config before h.possible k.possible h.asked k.asked h.are k.are h.timely k.timely in
+      let link = sending_link config before in
+      let lacks = subst (λ (v : Possible). RecordLacks config link v shown k.lacked) (sym possible) k.are_lacks in
+      let alike = one_record_lacks config link h.possible shown h.lacked k.lacked h.are_lacks lacks in (
+        one_deed session peer link shown deed done h.is_deed k.is_deed,
+        h.is_cause ∙ alike_cause h.possible style.own_faults h.lacked k.lacked alike ∙ ap (λ (v : Possible). lacked_cause style.own_faults v k.lacked) possible ∙ sym k.is_cause,
+      )
 
   -- the one record behind others
   one_last : (before : List ShownRecord) (a b : ShownRecord) → before ++ a ∷ [] ≡ before ++ b ∷ [] → a ≡ b
   one_last [] a b e = cc
   one_last (r ∷ before) a b e = one_last before a b (let f : before ++ a ∷ [] ≡ before ++ b ∷ [] = cc in f)
 
-  one_why_not : (style : Style) (places : ℕ → Place) (before records : List ShownRecord) (text other : List ℕ) → EachHasAHeader before → TellsWhyNot config style config.parts.session places before records text
-      → TellsWhyNot config style config.parts.session places before records other → text ≡ other
-  one_why_not style places before records text other each h k =
+  one_why_not : (style : Style) (session : Session) (places : ℕ → ℕ → Place) (before records : List ShownRecord) (text other : List ℕ) → EachIsCaptured config before
+      → TellsWhyNot config style session places before records text → TellsWhyNot config style session places before records other → text ≡ other
+  one_why_not style session places before records text other each h k =
       let shown = one_last before h.shown k.shown (sym h.next ∙ k.next) in
-      let line = one_record_text config.parts.session (form_on (sending_link config before) h.shown) h.shown h.line k.line h.is_line
-      (subst (λ (r : ShownRecord). IsRecordText config.parts.session (form_on (sending_link config before) r) r k.line) (sym shown) k.is_line) in
-      let rest = one_why style places before (Some (length before + 1, h.shown)) h.rest k.rest each h.why
-      (subst (λ (r : ShownRecord). TellsWhy config style places before (Some (length before + 1, r)) k.rest) (sym shown) k.why)
-      in h.whole ∙ (λ i. line_at style (places (length before + 1)) (line i) ++ rest i) ∙ sym k.whole
+      let fault = one_fault style session (peer_of session) before h.shown h.deed h.cause k.deed k.cause h.at_fault
+      (subst (λ (r : ShownRecord). IsAtFault config style session (peer_of session) before r k.deed k.cause) (sym shown) k.at_fault) in
+      let deed = fault.0 in
+      let cause = fault.1 in
+      let rest = one_why style session None places before (Some (length before + 1, h.shown)) h.rest k.rest each h.why
+      (subst (λ (r : ShownRecord). TellsWhy config style session None places before (Some (length before + 1, r)) k.rest) (sym shown) k.why) in
+      h.whole ∙ (λ i. record_line (places (length before + 1) (second_of (shown i))) session.local (deed i) (cause i) ++ rest i) ∙ sym k.whole
 
-  module _ (law : HasOneVerdict) (records : List ShownRecord) (skipped : Skipped) (each : EachHasAHeader records) (first other : List ℕ) (status code : ℕ) where
+  module _ (law : HasOneVerdict) (records : List ShownRecord) (skipped : Skipped) (each : EachIsCaptured config records) (first other : List ℕ) (status code : ℕ) where
     one_more : (s : SaysVerdict config records first status) (t : SaysVerdict config records other code) (more also : List ℕ) → SaysMore config records skipped first status s more
         → SaysMore config records skipped other code t also → more ≡ also
     one_more (inl a) (inl b) more also h k = h ∙ sym k
@@ -245,15 +364,16 @@ module _ (sets : SubcodesAreSets) (config : Config) where
     one_more (inr (inl a)) (inr (inl b)) more also h k =
         let e : No a.count ≡ No b.count = law config records (No a.count) (No b.count) (a.within, a.before, a.behind) (b.within, b.before, b.behind) in
         let count : a.count ≡ b.count = cc in
-        one_why_not plain counted_places (take a.count records) (take (a.count + 1) records) more also (first_headers a.count records each) h
-        (subst (λ (n : ℕ). TellsWhyNot config plain config.parts.session counted_places (take n records) (take (n + 1) records) also) (sym count) k)
+        one_why_not (judge_style records) config.parts.session counted_places (take a.count records) (take (a.count + 1) records) more also (first_captured config a.count records each) h
+        (subst (λ (n : ℕ). TellsWhyNot config (judge_style records) config.parts.session counted_places (take n records) (take (n + 1) records) also) (sym count) k)
     one_more (inr (inl a)) (inr (inr b)) more also h k =
         absurd (let e : No a.count ≡ Unfinished = law config records (No a.count) Unfinished (a.within, a.before, a.behind) (b.begins, b.none) in cc)
     one_more (inr (inr a)) (inl b) more also h k =
         absurd (let e : Unfinished ≡ Yes b.ends = law config records Unfinished (Yes b.ends) (a.begins, a.none) (b.some, b.lists) in cc)
     one_more (inr (inr a)) (inr (inl b)) more also h k =
         absurd (let e : Unfinished ≡ No b.count = law config records Unfinished (No b.count) (a.begins, a.none) (b.within, b.before, b.behind) in cc)
-    one_more (inr (inr a)) (inr (inr b)) more also h k = one_why plain counted_places records None more also each h k
+    one_more (inr (inr a)) (inr (inr b)) more also h k =
+        one_why (judge_style records) config.parts.session None counted_places records None more also each h k
 
 pub one_text : SubcodesAreSets → EachAllowed → HasOneVerdict
     → ((config : Config) (octets : List ℕ) (records also : List ShownRecord) (text other : List ℕ) (status code : ℕ) → Spells config.parts.session octets records
@@ -267,7 +387,7 @@ one_text sets allowed law verdict config octets records also text other status c
     subst (λ (v : List Piece). SaysExplained config records (skipped_of v) other code) (sym pieces)
     (subst (λ (v : List ShownRecord). SaysExplained config v (skipped_of spelled.pieces) other code) (sym same) said)
     in
-    let each : EachHasAHeader records = subst EachHasAHeader (sym spells.shown) (headers_of allowed config.parts.session None spells.pieces spells.text.each) in
+    let each : EachIsCaptured config records = subst (EachIsCaptured config) (sym spells.shown) (each_captured config allowed None spells.pieces spells.text.each) in
     let (first, equal) = verdict config octets records records says.first there.first status code spells says.says spells there.says in
     let more = one_more sets config law records skipped each says.first there.first status code says.says there.says says.more there.more says.explains there.explains in
     (says.whole ∙ (λ i. first i ++ more i) ∙ sym there.whole, equal)

@@ -23,15 +23,16 @@ use Rattle.bgp_judge.specs.declared.verdict.Verdict.{Verdict}
 use Rattle.bgp_judge.specs.declared.verdict.Verdict.TheVariants.{Yes, No, Unfinished}
 use Rattle.bgp_judge.specs.Ends.{end_value}
 use Rattle.bgp_judge.specs.Judging.{EndsBy, IsRefusal, ReadsWith, fault_in}
-use Rattle.bgp_judge.specs.Verdict.{IsVerdict}
+use Rattle.bgp_judge.specs.Verdict.{IsVerdict, verdict_value}
 use Rattle.bgp_reason.specs.declared.told.Told.{Told}
 use Rattle.bgp_open.specs.declared.link.Link.{Link}
 use Rattle.bgp_reason.specs.Sending.{sending_link}
 use Rattle.bgp_reason.specs.Told.{last_message, told}
-use Rattle.bgp_reason_text.specs.declared.style.Style.{Style}
-use Rattle.bgp_reason_text.specs.Record.{form_on}
-use Rattle.bgp_text.specs.Capture.{IsRecordText}
-use Rattle.bgp_reason_text.specs.Style.{plain}
+use Rattle.bgp_why.specs.declared.endpoint.Endpoint.{Endpoint}
+use Rattle.bgp_why.specs.declared.place.Place.{Place}
+use Rattle.bgp_why.specs.declared.style.Style.{Style}
+use Rattle.bgp_why.specs.Deed.{peer_of}
+use Rattle.bgp_why.specs.Style.{plain}
 use Rattle.bgp_text.specs.Capture.{refused_line}
 use Rattle.bgp_tool.specs.Answer.{IsWritten, answer_status, answer_text, verdict_status}
 use Rattle.bgp_tool.specs.Judging.{TellsFault}
@@ -40,16 +41,21 @@ use Rattle.bgp_explain.specs.declared.explained.Explained.{Explained}
 use Rattle.bgp_explain.specs.declared.explained.Impossible.{Impossible}
 use Rattle.bgp_explain.specs.declared.explained.Reason.{Reason}
 use Rattle.bgp_explain.specs.declared.explained.Totals.{Totals}
-use Rattle.bgp_explain.specs.Capture.{ExplainsCapture, SaysExplained, SaysUnexplained, TellsExplained, TellsVerdict, TellsWhy, TellsWhyNot}
-use Rattle.bgp_explain.specs.Details.{next_in}
+use Rattle.bgp_explain.specs.Capture.{ExplainsCapture, IsAtFault, SaysExplained, SaysUnexplained, TellsDeed, TellsExplained, TellsLinesNot, TellsVerdict, TellsWhy, TellsWhyNot, judge_style}
+use Rattle.bgp_explain.specs.Deed.{IsDeedOn, IsDeedText, IsFirstLine, line_of}
+use Rattle.bgp_explain.specs.Details.{AreLacksOf, next_in}
 use Rattle.bgp_explain.specs.Explaining.{Explains, ExplainsBy, IsExplained}
 use Rattle.bgp_explain.specs.Kept.{shown_by}
 use Rattle.bgp_explain.specs.declared.left_out.LeftOut.{LeftOut}
 use Rattle.bgp_explain.specs.LeftOut.{IsLeftOutBy, JudgesWithout}
 use Rattle.bgp_explain.specs.Opened.{IsOfConfederation, confederation_in, fault_told, left_out_in}
 use Rattle.bgp_explain.specs.Reason.{AreSummed, HasReason, IsNext, IsReasonAt}
-use Rattle.bgp_explain.specs.Text.{CanBePutOf, IsExplainedText, IsImpossibleLine, IsMoreBy, IsMoreOf, IsReasonText, IsWhy, line_at, no_memory_line}
-use Rattle.bgp_explain.specs.declared.places.Place.{Place}
+use Rattle.bgp_explain.specs.Lacked.{Lacked, RecordLacks, lacked_cause}
+use Rattle.bgp_explain.specs.Moments.{first_second}
+use Rattle.bgp_explain.specs.Records.{SaysLines}
+use Rattle.bgp_explain.specs.Text.{CanBePutOf, IsExplainedText, IsMoreBy, IsMoreOf, IsReasonText, IsWhyOf, first_by, first_in, no_memory_line}
+use Rattle.bgp_explain.specs.Why.{IsWhy}
+use Rattle.bgp_explain.proofs.FirstSecond.{first_alone, first_next, first_taken}
 use Rattle.bgp_explain.specs.Places.{counted_places}
 use Rattle.bgp_explain.proofs.NextRecord.{Can, can_of, each_can}
 use Rattle.bgp_explain.specs.Skipped.{skipped_of}
@@ -58,41 +64,115 @@ use Rattle.bgp_explain.specs.declared.skipped.Skipped.{Skipped}
 use Rattle.bgp_explain.specs.declared.tally.Tally.{Tally}
 use Rattle.bgp_tool.specs.declared.seen.Seen.{Seen}
 
-module _ {X : Type 0} (config : Config) (style : Style) (session : Session) (places : ℕ → Place) where
+module _ {X : Type 0} (config : Config) (style : Style) (session : Session) (another : Option ℕ) (places : ℕ → ℕ → Place) where
   same_why : (records : List ShownRecord) (reason : Reason X) (next : Option (ℕ × ShownRecord)) (text : List ℕ) → IsReasonAt config records reason
-      → IsWhy config style places reason.told reason.link reason.left_out reason.last_message.items reason.possible next text
-      → IsWhy config style places (told records) (sending_link config records) reason.left_out (last_message records) reason.possible next text
+      → IsWhy config style session another places reason.told reason.moments reason.link reason.left_out reason.last_message.items reason.possible next text
+      → IsWhy config style session another places (told records) reason.moments (sending_link config records) reason.left_out (last_message records) reason.possible next text
   same_why records reason next text at why =
-      subst (λ (t : Told). IsWhy config style places t (sending_link config records) reason.left_out (last_message records) reason.possible next text) at.told
-      (subst (λ (l : Option Link). IsWhy config style places reason.told l reason.left_out (last_message records) reason.possible next text) at.link
-      (subst (λ (o : List ℕ). IsWhy config style places reason.told reason.link reason.left_out o reason.possible next text) at.last_message why))
+      subst (λ (t : Told). IsWhy config style session another places t reason.moments (sending_link config records) reason.left_out (last_message records) reason.possible next text) at.told
+      (subst (λ (l : Option Link). IsWhy config style session another places reason.told reason.moments l reason.left_out (last_message records) reason.possible next text) at.link
+      (subst (λ (o : List ℕ). IsWhy config style session another places reason.told reason.moments reason.link reason.left_out o reason.possible next text) at.last_message why))
 
-  tells_why : (records : List ShownRecord) (reason : Reason X) (next : Option (ℕ × ShownRecord)) (text : List ℕ) → IsReasonAt config records reason
-      → IsWhy config style places reason.told reason.link reason.left_out reason.last_message.items reason.possible next text → TellsWhy config style places records next text
+  pub tells_why : (records : List ShownRecord) (reason : Reason X) (next : Option (ℕ × ShownRecord)) (text : List ℕ) → IsReasonAt config records reason
+      → IsWhy config style session another places reason.told reason.moments reason.link reason.left_out reason.last_message.items reason.possible next text
+      → TellsWhy config style session another places records next text
   tells_why records reason next text at why = record {
     possible = reason.possible;
     are = at.possible;
     asked = at.asked;
     timely = at.timely;
+    moments = reason.moments;
+    are_moments = at.moments;
     left_out = reason.left_out;
     leaves_out = at.left_out;
     why = same_why records reason next text at why;
   }
 
-  tells_not : (before records : List ShownRecord) (reason : Reason X) (o : Option (Impossible X)) (first rest : List ℕ)
-      → IsNext config before o records → IsImpossibleLine style session places reason.link o first → IsReasonAt config before reason
-      → IsWhy config style places reason.told reason.link reason.left_out reason.last_message.items reason.possible (next_in o) rest
-      → TellsWhyNot config style session places before records (first ++ rest)
-  tells_not before records reason None first rest next line at why = absurd next
-  tells_not before records reason (Some i) first rest next line at why = record {
+  -- of the next record, which is kept
+  tells_next : (before : List ShownRecord) (reason : Reason X) (i : Impossible X) (text : List ℕ) → i.number ≡ length before + 1 → IsReasonAt config before reason
+      → IsWhy config style session another places reason.told reason.moments reason.link reason.left_out reason.last_message.items reason.possible (next_in (Some i)) text
+      → TellsWhy config style session another places before (Some (length before + 1, shown_by i.«record»)) text
+  tells_next before reason i text number at why =
+      tells_why before reason (Some (length before + 1, shown_by i.«record»)) text at
+      (subst (λ (n : ℕ). IsWhy config style session another places reason.told reason.moments reason.link reason.left_out reason.last_message.items reason.possible
+      (Some (n, shown_by i.«record»)) text) number why)
+
+  tells_lines_not : (before records : List ShownRecord) (reason : Reason X) (o : Option (Impossible X)) (text : List ℕ) → IsNext config before o records
+      → IsReasonAt config before reason
+      → IsWhy config style session another places reason.told reason.moments reason.link reason.left_out reason.last_message.items reason.possible (next_in o) text
+      → TellsLinesNot config style session another places before records text
+  tells_lines_not before records reason None text next at why = absurd next
+  tells_lines_not before records reason (Some i) text next at why = record {
     shown = shown_by i.«record»;
     next = next.1;
-    line = line.0;
-    is_line = subst (λ (l : Option Link). IsRecordText session (form_on l (shown_by i.«record»)) (shown_by i.«record») line.0) at.link line.1;
+    why = tells_next before reason i text next.0.number at why;
+  }
+
+  -- after a verdict that has a reason
+  pub lines_said : (Y : Type 0) (records : List ShownRecord) (verdict : Verdict Y) (reason : Reason X) (text : List ℕ) → HasReason config records verdict (Some reason)
+      → IsWhyOf config style session another places reason text → SaysLines config style session another places records (verdict_value verdict) text
+  lines_said Y records (Yes ends) reason text has why = absurd (let e : Some reason ≡ None = has in (let k : ⊥ = cc in k))
+  lines_said Y records (No count) reason text has why =
+      tells_lines_not (take count records) (take (count + 1) records) reason reason.impossible text has.1 has.0 why
+  lines_said Y records Unfinished reason text has why =
+      tells_why records reason None text has.0
+      (subst (λ (o : Option (Impossible X)). IsWhy config style session another places reason.told reason.moments reason.link reason.left_out reason.last_message.items reason.possible
+      (next_in o) text) has.1 why)
+
+module _ {X : Type 0} (config : Config) (style : Style) (session : Session) where
+  -- what is wrong with a record that lacks this
+  at_fault : (peer : Endpoint) (before : List ShownRecord) (reason : Reason X) (shown : ShownRecord) (lacked : Lacked) (deed : List ℕ) → IsReasonAt config before reason
+      → RecordLacks config reason.link reason.possible shown lacked → IsDeedOn session peer reason.link shown deed
+      → IsAtFault config style session peer before shown deed (lacked_cause style.own_faults reason.possible lacked)
+  at_fault peer before reason shown lacked deed at lacks is = record {
+    possible = reason.possible;
+    are = at.possible;
+    asked = at.asked;
+    timely = at.timely;
+    lacked = lacked;
+    are_lacks = subst (λ (l : Option Link). RecordLacks config l reason.possible shown lacked) at.link lacks;
+    is_deed = subst (λ (l : Option Link). IsDeedOn session peer l shown deed) at.link is;
+    is_cause = refl;
+  }
+
+  tells_deed : (peer : Endpoint) (before records : List ShownRecord) (reason : Reason X) (o : Option (Impossible X)) (lacked : Lacked) (text : List ℕ)
+      → IsNext config before o records → IsReasonAt config before reason → AreLacksOf config reason.link reason.possible (next_in o) lacked
+      → IsDeedText style session peer reason.link reason.possible lacked (next_in o) text → TellsDeed config style session peer before records text
+  tells_deed peer before records reason None lacked text next at lacks is = absurd next
+  tells_deed peer before records reason (Some i) lacked text next at lacks is = record {
+    shown = shown_by i.«record»;
+    next = next.1;
+    deed = is.0;
+    cause = lacked_cause style.own_faults reason.possible lacked;
+    at_fault = at_fault peer before reason (shown_by i.«record») lacked is.0 at lacks is.1;
+    whole = is.2;
+  }
+
+  -- after a no that has a reason
+  pub deed_said : (Y : Type 0) (peer : Endpoint) (records : List ShownRecord) (count : ℕ) (reason : Reason X) (lacked : Lacked) (text : List ℕ)
+      → HasReason {X = Y} config records (No count) (Some reason) → AreLacksOf config reason.link reason.possible (next_in reason.impossible) lacked
+      → IsDeedText style session peer reason.link reason.possible lacked (next_in reason.impossible) text
+      → TellsDeed config style session peer (take count records) (take (count + 1) records) text
+  deed_said Y peer records count reason lacked text has lacks is =
+      tells_deed peer (take count records) (take (count + 1) records) reason reason.impossible lacked text has.1 has.0 lacks is
+
+module _ {X : Type 0} (config : Config) (style : Style) (session : Session) (places : ℕ → ℕ → Place) where
+  tells_not : (before records : List ShownRecord) (reason : Reason X) (o : Option (Impossible X)) (lacked : Lacked) (first rest : List ℕ)
+      → IsNext config before o records → AreLacksOf config reason.link reason.possible (next_in o) lacked
+      → IsFirstLine style session places reason.link reason.possible lacked (next_in o) first → IsReasonAt config before reason
+      → IsWhy config style session None places reason.told reason.moments reason.link reason.left_out reason.last_message.items reason.possible (next_in o) rest
+      → TellsWhyNot config style session places before records (first ++ rest)
+  tells_not before records reason None lacked first rest next lacks line at why = absurd next
+  tells_not before records reason (Some i) lacked first rest next lacks line at why = record {
+    shown = shown_by i.«record»;
+    next = next.1;
+    deed = line.0;
+    cause = lacked_cause style.own_faults reason.possible lacked;
+    at_fault = at_fault config style session (peer_of session) before reason (shown_by i.«record») lacked line.0 at lacks line.1;
     rest = rest;
-    why = tells_why before reason (Some (length before + 1, shown_by i.«record»)) rest at
-        (subst (λ (n : ℕ). IsWhy config style places reason.told reason.link reason.left_out reason.last_message.items reason.possible (Some (n, shown_by i.«record»)) rest) next.0.number why);
-    whole = ap (λ (f : List ℕ). f ++ rest) (line.2 ∙ ap (λ (n : ℕ). line_at style (places n) line.0) next.0.number);
+    why = tells_next config style session None places before reason i rest next.0.number at why;
+    whole = ap (λ (f : List ℕ). f ++ rest)
+        (line.2 ∙ ap (λ (n : ℕ). line_of style session places reason.possible lacked n (shown_by i.«record») line.0) next.0.number);
   }
 
   -- what stands after a no that has a reason
@@ -100,30 +180,54 @@ module _ {X : Type 0} (config : Config) (style : Style) (session : Session) (pla
       → IsReasonText config style session places reason more → TellsWhyNot config style session places (take count records) (take (count + 1) records) more
   why_not Y records count reason more has is =
       subst (λ (t : List ℕ). TellsWhyNot config style session places (take count records) (take (count + 1) records) t) (sym is.whole)
-      (tells_not (take count records) (take (count + 1) records) reason reason.impossible is.first is.rest has.1 is.impossible has.0 is.why)
+      (tells_not (take count records) (take (count + 1) records) reason reason.impossible is.lacked is.first is.rest has.1 is.are_lacks is.is_first has.0 is.why)
+
+  no_first : (reason : Reason X) (lacked : Lacked) (first : List ℕ) (o : Option (Impossible X)) → o ≡ None
+      → IsFirstLine style session places reason.link reason.possible lacked (next_in o) first → first ≡ []
+  no_first reason lacked first o none is =
+      subst (λ (v : Option (Impossible X)). IsFirstLine style session places reason.link reason.possible lacked (next_in v) first) none is
 
   -- and after an unfinished
   pub why_unfinished : (Y : Type 0) (records : List ShownRecord) (reason : Reason X) (more : List ℕ) → HasReason {X = Y} config records Unfinished (Some reason)
-      → IsReasonText config style session places reason more → TellsWhy config style places records None more
+      → IsReasonText config style session places reason more → TellsWhy config style session None places records None more
   why_unfinished Y records reason more has is =
-      let none : is.first ≡ [] = subst (λ (o : Option (Impossible X)). IsImpossibleLine style session places reason.link o is.first) has.1 is.impossible in
-      let why = subst (λ (o : Option (Impossible X)). IsWhy config style places reason.told reason.link reason.left_out reason.last_message.items reason.possible (next_in o) is.rest) has.1 is.why in
+      let none = no_first reason is.lacked is.first reason.impossible has.1 is.is_first in
+      let why = lines_said config style session None places Y records Unfinished reason is.rest has is.why in
       let whole = is.whole ∙ ap (λ (f : List ℕ). f ++ is.rest) none in
-      subst (λ (t : List ℕ). TellsWhy config style places records None t) (sym whole) (tells_why records reason None is.rest has.0 why)
+      subst (λ (t : List ℕ). TellsWhy config style session None places records None t) (sym whole) why
+
+-- ---- of a capture, in the style of `bgp judge`
+
+module _ {X : Type 0} (config : Config) (session : Session) (places : ℕ → ℕ → Place) (Y : Type 0) (records : List ShownRecord) where
+  -- the second of the first record
+  first_before : (count : ℕ) (reason : Reason X) (o : Option (Impossible X)) → IsReasonAt config (take count records) reason
+      → IsNext config (take count records) o (take (count + 1) records) → first_by reason.moments.first (next_in o) ≡ first_second records
+  first_before count reason None at next = absurd next
+  first_before count reason (Some i) at next =
+      first_next (take count records) (shown_by i.«record») i.number reason.moments.first at.moments.first ∙ ap first_second (sym next.1) ∙ first_taken count records
+
+  first_of_all : (reason : Reason X) (o : Option (Impossible X)) → o ≡ None → IsReasonAt config records reason → first_by reason.moments.first (next_in o) ≡ first_second records
+  first_of_all reason o none at =
+      ap (λ (v : Option (Impossible X)). first_by reason.moments.first (next_in v)) none ∙ first_alone records reason.moments.first at.moments.first
 
   -- the reason, or that there was no memory for it
-  more_of_no : (Y : Type 0) (records : List ShownRecord) (count : ℕ) (why : Option (Reason X)) (detailed : Bool) (more : List ℕ) → HasReason {X = Y} config records (No count) why
-      → IsMoreBy config style session places why detailed more
-      → TellsWhyNot config style session places (take count records) (take (count + 1) records) more ⊎ (more ≡ no_memory_line)
-  more_of_no Y records count None detailed more has is = inr is
-  more_of_no Y records count (Some reason) false more has is = inr is
-  more_of_no Y records count (Some reason) true more has is = inl (why_not Y records count reason more has is)
+  more_of_no : (count : ℕ) (why : Option (Reason X)) (detailed : Bool) (more : List ℕ) → HasReason {X = Y} config records (No count) why
+      → IsMoreBy config (plain (first_in why) false) session places why detailed more
+      → TellsWhyNot config (judge_style records) session places (take count records) (take (count + 1) records) more ⊎ (more ≡ no_memory_line)
+  more_of_no count None detailed more has is = inr is
+  more_of_no count (Some reason) false more has is = inr is
+  more_of_no count (Some reason) true more has is =
+      inl (subst (λ (n : ℕ). TellsWhyNot config (plain n false) session places (take count records) (take (count + 1) records) more)
+      (first_before count reason reason.impossible has.0 has.1) (why_not config (plain (first_in (Some reason)) false) session places Y records count reason more has is))
 
-  more_of_unfinished : (Y : Type 0) (records : List ShownRecord) (why : Option (Reason X)) (detailed : Bool) (more : List ℕ) → HasReason {X = Y} config records Unfinished why
-      → IsMoreBy config style session places why detailed more → TellsWhy config style places records None more ⊎ (more ≡ no_memory_line)
-  more_of_unfinished Y records None detailed more has is = inr is
-  more_of_unfinished Y records (Some reason) false more has is = inr is
-  more_of_unfinished Y records (Some reason) true more has is = inl (why_unfinished Y records reason more has is)
+  more_of_unfinished : (why : Option (Reason X)) (detailed : Bool) (more : List ℕ) → HasReason {X = Y} config records Unfinished why
+      → IsMoreBy config (plain (first_in why) false) session places why detailed more
+      → TellsWhy config (judge_style records) session None places records None more ⊎ (more ≡ no_memory_line)
+  more_of_unfinished None detailed more has is = inr is
+  more_of_unfinished (Some reason) false more has is = inr is
+  more_of_unfinished (Some reason) true more has is =
+      inl (subst (λ (n : ℕ). TellsWhy config (plain n false) session None places records None more)
+      (first_of_all reason reason.impossible has.1 has.0) (why_unfinished config (plain (first_in (Some reason)) false) session places Y records reason more has is))
 
 -- explained, or told without its reason
 says : {X Y : Type 0} (config : Config) (records : List ShownRecord) (skipped : Skipped) (verdict : Verdict X) (why : Option (Reason Y)) (detailed : Bool) (totals : Totals) (more text : List ℕ)
@@ -140,7 +244,7 @@ says config records skipped (Yes ends) why detailed totals more text is has sums
   whole = whole;
 }
 says {X} {Y} config records skipped (No count) why detailed totals more text is has sums skips tells whole =
-    elim (more_of_no config plain config.parts.session counted_places X records count why detailed more has tells) [
+    elim (more_of_no config config.parts.session counted_places X records count why detailed more has tells) [
       | inl why_not ↦ inl record {
         first = verdict_text {X = X} (No count);
         more = more;
@@ -156,7 +260,7 @@ says {X} {Y} config records skipped (No count) why detailed totals more text is 
       }
     ]
 says {X} {Y} config records skipped Unfinished why detailed totals more text is has sums skips tells whole =
-    elim (more_of_unfinished config plain config.parts.session counted_places X records why detailed more has tells) [
+    elim (more_of_unfinished config config.parts.session counted_places X records why detailed more has tells) [
       | inl may ↦ inl record {
         first = verdict_text {X = X} Unfinished;
         more = more;

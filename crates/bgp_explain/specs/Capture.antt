@@ -1,8 +1,9 @@
 -- What explaining a capture reads, writes and answers.
-use Rattle.std.specs.Prelude.{◌≡◌, ◌≢◌, ◌<◌, ◌+◌, ◌^◌, ◌++◌, ◌⊎◌, ℕ, Bool, List, [], ◌∷◌}
+use Rattle.std.specs.Prelude.{◌≡◌, ◌≢◌, ◌<◌, ◌+◌, ◌^◌, ◌++◌, ◌⊎◌, ℕ, Bool, false, List}
+use Rattle.std.specs.Prelude.{[], ◌∷◌}
 use Rattle.std.specs.Prelude.{Option, None, Some, IfSome, IsTrue, length, take}
 use Rattle.std.proofs.Common.{inl, inr}
-use Rattle.bgp_prefix.specs.Shown.{ShownRecord}
+use Rattle.bgp_prefix.specs.Shown.{ShownRecord, second_of}
 use Rattle.bgp_prefix.specs.declared.session.Session.{Session}
 use Rattle.bgp_open.specs.declared.config.Config.{Config}
 use Rattle.mrt.specs.Capture.{Spells}
@@ -11,47 +12,96 @@ use Rattle.bgp_reason.specs.Asked.{AreAsked}
 use Rattle.bgp_reason.specs.Possible.{ArePossible}
 use Rattle.bgp_reason.specs.Sending.{sending_link}
 use Rattle.bgp_reason.specs.Told.{told, last_message}
-use Rattle.bgp_reason_text.specs.declared.style.Style.{Style}
-use Rattle.bgp_reason_text.specs.Record.{form_on}
-use Rattle.bgp_reason_text.specs.Style.{plain}
-use Rattle.bgp_text.specs.Capture.{IsRecordText}
+use Rattle.bgp_why.specs.declared.endpoint.Endpoint.{Endpoint}
+use Rattle.bgp_why.specs.declared.place.Place.{Place}
+use Rattle.bgp_why.specs.declared.style.Style.{Style}
+use Rattle.bgp_why.specs.Deed.{peer_of, record_line}
+use Rattle.bgp_why.specs.Style.{plain}
 use Rattle.bgp_tool.specs.Answer.{IsWritten}
 use Rattle.bgp_tool.specs.Judging.{SaysVerdict, TellsFault}
 use Rattle.bgp_tool.specs.Seen.{seen_in}
 use Rattle.bgp_explain.specs.declared.left_out.LeftOut.{LeftOut}
 use Rattle.bgp_explain.specs.LeftOut.{LeavesOut}
-use Rattle.bgp_explain.specs.declared.places.Place.{Place}
+use Rattle.bgp_explain.specs.declared.moments.Moments.{Moments}
+use Rattle.bgp_explain.specs.Deed.{IsDeedOn}
+use Rattle.bgp_explain.specs.Lacked.{Lacked, RecordLacks, lacked_cause}
+use Rattle.bgp_explain.specs.Moments.{AreMomentsOf, first_second}
 use Rattle.bgp_explain.specs.Places.{counted_places}
 use Rattle.bgp_explain.specs.declared.skipped.Skipped.{Skipped}
 use Rattle.bgp_explain.specs.Skipped.{skipped_of}
 use Rattle.bgp_explain.specs.Tally.{tally_of, yes_lines}
-use Rattle.bgp_explain.specs.Text.{IsWhy, line_at, no_memory_line}
+use Rattle.bgp_explain.specs.Text.{no_memory_line}
+use Rattle.bgp_explain.specs.Why.{IsWhy}
 
 -- The lines on what records tell, and what may follow them: all of it, and nothing else, no kind
 -- without a record of it either. The records stand at these places. Where the next one is
--- impossible, it is given with its count among them. The lines are in this style.
-pub record TellsWhy (config : Config) (style : Style) (places : ℕ → Place)
-    (records : List ShownRecord) (next : Option (ℕ × ShownRecord)) (text : List ℕ) : Type 0 where
+-- impossible, it is given with its count among them. The lines are in this style; if `another` is
+-- given, they are those of each configuration with another AS number of the peer than this.
+pub record TellsWhy (config : Config) (style : Style) (session : Session) (another : Option ℕ)
+    (places : ℕ → ℕ → Place) (records : List ShownRecord) (next : Option (ℕ × ShownRecord))
+    (text : List ℕ) : Type 0 where
   pub possible : Possible
   pub are : ArePossible config records possible
   pub asked : AreAsked config records possible
   pub timely : IfSome possible.hold_timer_expired (λ from. from < 2 ^ 32)
+  pub moments : Moments
+  pub are_moments : AreMomentsOf config records moments
   pub left_out : LeftOut
   pub leaves_out : LeavesOut config records left_out
-  pub why : IsWhy config style places (told records) (sending_link config records) left_out
-      (last_message records) possible next text
+  pub why : IsWhy config style session another places (told records) moments
+      (sending_link config records) left_out (last_message records) possible next text
 
--- the line of the record after these, as of a capture of this session, where routes are spelled by
--- the link that these settle, if they do; and then the lines on those before it
-pub record TellsWhyNot (config : Config) (style : Style) (session : Session)
-    (places : ℕ → Place) (before records : List ShownRecord) (text : List ℕ) : Type 0 where
+-- of the record after these, which is impossible
+pub record TellsLinesNot (config : Config) (style : Style) (session : Session)
+    (another : Option ℕ) (places : ℕ → ℕ → Place) (before records : List ShownRecord)
+    (text : List ℕ) : Type 0 where
   pub shown : ShownRecord
   pub next : records ≡ before ++ shown ∷ []
-  pub line : List ℕ
-  pub is_line : IsRecordText session (form_on (sending_link config before) shown) shown line
+  pub why : TellsWhy config style session another places before
+      (Some (length before + 1, shown)) text
+
+-- What the record after these shows was done, between the local system and the peer, and what is
+-- wrong with it, by what could have stood in its place.
+pub record IsAtFault (config : Config) (style : Style) (session : Session) (peer : Endpoint)
+    (before : List ShownRecord) (shown : ShownRecord) (deed cause : List ℕ) : Type 0 where
+  pub possible : Possible
+  pub are : ArePossible config before possible
+  pub asked : AreAsked config before possible
+  pub timely : IfSome possible.hold_timer_expired (λ from. from < 2 ^ 32)
+  pub lacked : Lacked
+  pub are_lacks : RecordLacks config (sending_link config before) possible shown lacked
+  pub is_deed : IsDeedOn session peer (sending_link config before) shown deed
+  pub is_cause : cause ≡ lacked_cause style.own_faults possible lacked
+
+pub record TellsDeed (config : Config) (style : Style) (session : Session) (peer : Endpoint)
+    (before records : List ShownRecord) (text : List ℕ) : Type 0 where
+  pub shown : ShownRecord
+  pub next : records ≡ before ++ shown ∷ []
+  pub deed : List ℕ
+  pub cause : List ℕ
+  pub at_fault : IsAtFault config style session peer before shown deed cause
+  pub whole : text ≡ deed ++ cause
+
+-- the line of the record after these, as of a capture of this session; and then the lines on those
+-- before it
+pub record TellsWhyNot (config : Config) (style : Style) (session : Session)
+    (places : ℕ → ℕ → Place) (before records : List ShownRecord) (text : List ℕ) : Type 0 where
+  pub shown : ShownRecord
+  pub next : records ≡ before ++ shown ∷ []
+  pub deed : List ℕ
+  pub cause : List ℕ
+  pub at_fault : IsAtFault config style session (peer_of session) before shown deed cause
   pub rest : List ℕ
-  pub why : TellsWhy config style places before (Some (length before + 1, shown)) rest
-  pub whole : text ≡ line_at style (places (length before + 1)) line ++ rest
+  pub why : TellsWhy config style session None places before (Some (length before + 1, shown))
+      rest
+  pub whole : text
+      ≡ record_line (places (length before + 1) (second_of shown)) session.local deed cause
+      ++ rest
+
+-- `bgp judge` takes each number from the configuration, and leaves out the date of the day of the
+-- first record
+abbrev pub judge_style : List ShownRecord → Style
+judge_style records = plain (first_second records) false
 
 -- What is told after a verdict: of a no why the next record is impossible, of an unfinished what
 -- may follow, and after a yes what its records are, and what was skipped.
@@ -61,9 +111,11 @@ module _ (config : Config) (records : List ShownRecord) (skipped : Skipped) (fir
   SaysMore (inl says) more =
       more ≡ yes_lines (tally_of records) (Some skipped) (seen_in records).left_idle
   SaysMore (inr (inl denies)) more =
-      TellsWhyNot config plain config.parts.session counted_places (take denies.count records)
-      (take (denies.count + 1) records) more
-  SaysMore (inr (inr unfinished)) more = TellsWhy config plain counted_places records None more
+      TellsWhyNot config (judge_style records) config.parts.session counted_places
+      (take denies.count records) (take (denies.count + 1) records) more
+  SaysMore (inr (inr unfinished)) more =
+      TellsWhy config (judge_style records) config.parts.session None counted_places records None
+      more
 
 -- the text of the verdict, and after it why it is so
 pub record SaysExplained (config : Config) (records : List ShownRecord) (skipped : Skipped)

@@ -7,7 +7,7 @@ use Rattle.bgp_machine.specs.declared.fsm.Fsm.TheVariants.{Established}
 use Rattle.bgp_machine.specs.Heard.{Announces}
 use Rattle.bgp_reason.specs.declared.kinds.Possible.{Possible}
 use Rattle.bgp_reason.specs.declared.told.Told.{Told}
-use Rattle.bgp_reason_text.specs.declared.applying.AskedUpdate.{AskedUpdate}
+use Rattle.bgp_why.specs.declared.applying.AskedUpdate.{AskedUpdate}
 use Rattle.bgp_explain.specs.declared.details.Details.{Details}
 use Rattle.bgp_explain.specs.declared.explained.Impossible.{Impossible}
 use Rattle.bgp_explain.specs.declared.explained.Reason.{Reason}

@@ -1,6 +1,6 @@
 -- What the impossible record lacks of an item that it resembles, and its text.
-use Rattle.std.specs.Prelude.{◌≡◌, ◌⊎◌, ℕ, List, [], if◌then◌else◌, Option, IsNone}
-use Rattle.std.specs.Prelude.{IsSomeAnd, map, codes}
+use Rattle.std.specs.Prelude.{◌≡◌, ◌⊎◌, ◌++◌, ℕ, Bool, true, false, List, [], if◌then◌else◌}
+use Rattle.std.specs.Prelude.{Option, IsNone, IsSomeAnd, map, codes}
 use Rattle.bgp_prefix.specs.Shown.{ShownRecord, Received, Sent, Changed}
 use Rattle.bgp_open.specs.declared.config.Config.{Config}
 use Rattle.bgp_open.specs.declared.link.Link.{Link}
@@ -11,16 +11,16 @@ use Rattle.bgp_parts.specs.declared.own_open.OwnOpenParts.{OwnOpenParts}
 use Rattle.bgp_parts.specs.NotificationParts.{AreNotificationParts, ResembleNone}
 use Rattle.bgp_parts.specs.OwnOpenParts.{AreOwnOpenParts}
 use Rattle.bgp_parts.specs.UpdateParts.{Part, AreUpdateParts, shown_part}
-use Rattle.bgp_parts_text.specs.Notifications.{notification_parts_text}
-use Rattle.bgp_parts_text.specs.Updates.{update_parts_text}
-use Rattle.bgp_reason_text.specs.declared.lacks.Lacks.{Lacks}
-use Rattle.bgp_reason_text.specs.declared.lacks.Lacks.TheVariants as lacks
-use Rattle.bgp_reason_text.specs.Items.{all_items, first_word, those_possible}
-use Rattle.bgp_reason_text.specs.Lacks.{IsWholeOf, is_notification, is_open, is_update}
-use Rattle.bgp_reason_text.specs.Lacks.{open_but}
-use Rattle.bgp_reason_text.specs.declared.style.Style.{Style}
-use Rattle.bgp_reason_text.specs.Notes.{IsNotificationOf}
-use Rattle.bgp_reason_text.specs.Possible.{item_lines}
+use Rattle.bgp_why_parts.specs.declared.own_faults.OwnFaults.{OwnFaults}
+use Rattle.bgp_why_parts.specs.Parts.{shown_notification, shown_update}
+use Rattle.bgp_why.specs.declared.lacks.Lacks.{Lacks}
+use Rattle.bgp_why.specs.declared.lacks.Lacks.TheVariants as lacks
+use Rattle.bgp_why.specs.declared.style.Style.{Style}
+use Rattle.bgp_why.specs.Deed.{due_first, message_due}
+use Rattle.bgp_why.specs.Lacks.{IsWholeOf, is_code_possible, is_notification, is_open}
+use Rattle.bgp_why.specs.Lacks.{is_update, open_lacks}
+use Rattle.bgp_why.specs.Notes.{IsNotificationOf}
+use Rattle.bgp_why.specs.Possible.{shown_lines}
 
 pub data Lacked : Type 0 where
   -- it resembles no item
@@ -65,21 +65,45 @@ RecordLacks config link possible (Sent second octets) lacked =
     SentLacks config link possible second octets lacked
 RecordLacks config link possible (Changed second old new) lacked = lacked ≡ Nothing
 
--- ---- the lines of what may follow
+-- ---- the text
 
--- what may follow, and of the item that the record resembles what it lacks
+-- an item that it resembles may come
+abbrev pub may_be_like : Possible → Lacked → Bool
+may_be_like p Nothing = false
+may_be_like p (Open parts) = p.own_open
+may_be_like p (Update parts) = p.update
+may_be_like p (Notification code parts) = is_code_possible p code
+
+-- what it lacks, after one text or, if those are own faults, after the other
+abbrev pub lacked_text : List ℕ → List ℕ → Option OwnFaults → Lacked → List ℕ
+lacked_text before own faults Nothing = []
+lacked_text before own faults (Open parts) = open_lacks before own faults parts
+lacked_text before own faults (Update parts) = shown_update before true parts
+lacked_text before own faults (Notification code parts) = shown_notification before code parts
+
+-- what it lacks of the item that it resembles, after the item's text
+abbrev pub but_text : Option OwnFaults → Lacked → List ℕ
+but_text faults lacked =
+    lacked_text (codes "; this one: ") (codes "; none may have ") faults lacked
+
+-- what may stand in its place, and of the item that it resembles what it lacks
 abbrev pub following_lines : Style → Possible → Lacked → List ℕ
-following_lines style p Nothing =
-    item_lines style (λ item. []) (first_word p.message) (those_possible (all_items p))
+following_lines style p Nothing = shown_lines style false (λ item. []) p
 following_lines style p (Open parts) =
-    item_lines style (λ item. if is_open item then open_but style.own_faults parts else [])
-    (first_word p.message) (those_possible (all_items p))
+    shown_lines style false
+    (λ item. if is_open item then but_text style.own_faults (Open parts) else []) p
 following_lines style p (Update parts) =
-    item_lines style
-    (λ item. if is_update item then update_parts_text (codes ", but ") parts else [])
-    (first_word p.message) (those_possible (all_items p))
+    shown_lines style false
+    (λ item. if is_update item then but_text style.own_faults (Update parts) else []) p
 following_lines style p (Notification code parts) =
-    item_lines style
+    shown_lines style false
     (λ item. if is_notification code item
-    then notification_parts_text (codes ", but ") parts else [])
-    (first_word p.message) (those_possible (all_items p))
+    then but_text style.own_faults (Notification code parts) else []) p
+
+-- what is wrong with it: it isn't allowed, and lacks this of what is; or something is due first
+abbrev pub lacked_cause : Option OwnFaults → Possible → Lacked → List ℕ
+lacked_cause faults p lacked =
+    if p.message
+    then codes ", not allowed here"
+    ++ (if may_be_like p lacked then lacked_text (codes ": ") (codes ": ") faults lacked else [])
+    else due_first (message_due p)

@@ -12,7 +12,7 @@ use Rattle.bgp_parts.specs.OwnOpenParts.{LacksNothing}
 use Rattle.bgp_reason.specs.declared.kinds.Possible.{Possible}
 use Rattle.bgp_reason.specs.Possible.{ArePossible, IsAmong, IsCapturable}
 use Rattle.bgp_reason.specs.Sending.{sending_link}
-use Rattle.bgp_reason_text.specs.NotWhole.{IsWhyNotSent}
+use Rattle.bgp_why.specs.NotWhole.{IsWhyNotSent}
 use Rattle.bgp_explain.specs.Lacked.{Lacked, Nothing, Open, Update, Notification, RecordLacks}
 
 -- Of records whose verdict is a no, after so many, and of what is possible there.

@@ -15,6 +15,9 @@ pub mod LastReceived
 pub mod Updates
 pub mod Lacked
 pub mod Details
+pub mod SentLine
+pub mod Why
+pub mod Deed
 pub mod Text
 pub mod Capture
 pub mod Records

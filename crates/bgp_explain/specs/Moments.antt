@@ -40,6 +40,11 @@ abbrev pub last_number : List ShownRecord → Option ℕ
 last_number [] = None
 last_number (shown ∷ records) = Some (length records + 1)
 
+-- the second of the first record, 0 if there is none
+abbrev pub first_second : List ShownRecord → ℕ
+first_second [] = 0
+first_second (shown ∷ records) = second_of shown
+
 -- ---- the NOTIFICATION
 
 -- The record shows this NOTIFICATION as sent on the link: a whole message, as long as one may be

@@ -1,8 +1,9 @@
--- Where the records that are judged stand: the number that one has in its session, and the packet
--- that shows it, in a recording. They are counted from 1, and so are packets.
-use Rattle.std.specs.Prelude.{ℕ, zero, suc, List, Option, None, option_map, slice_get, unwrap_or}
+-- Where the records that are judged stand: the number that one has in its session, the packet that
+-- shows it, in a recording, and its second. They are counted from 1, and so are packets.
+use Rattle.std.specs.Prelude.{ℕ, zero, suc, List, Option, None, Some, option_map, slice_get}
+use Rattle.std.specs.Prelude.{unwrap_or}
 use Rattle.bgp_recording.specs.declared.entry.Entry.{Entry}
-use Rattle.bgp_explain.specs.declared.places.Place.{Place}
+use Rattle.bgp_why.specs.declared.place.Place.{Place}
 use Rattle.bgp_explain.specs.declared.places.Places.{Places}
 use Rattle.bgp_explain.specs.declared.places.Places.TheVariants.{Counted, Shown, Numbered}
 
@@ -19,21 +20,31 @@ packet_at entries count = option_map (λ entry. entry.packet) (counted entries c
 abbrev pub number_at : List ℕ → ℕ → ℕ
 number_at numbers count = unwrap_or (counted numbers count) count
 
--- ---- of the record with a count
+-- ---- of the record with a count, and its second
+
+abbrev pub place_with : ℕ → Option ℕ → ℕ → Place
+place_with number packet second =
+    record { number = number; packet = packet; second = second; micro = None }
 
 -- of all records of a capture's session: its count is its number
-abbrev pub counted_places : ℕ → Place
-counted_places count = record { number = count; packet = None }
+abbrev pub counted_places : ℕ → ℕ → Place
+counted_places count second = place_with count None second
 
 -- of those of entries: so, and its entry has the packet
-abbrev pub shown_places : List Entry → ℕ → Place
-shown_places entries count = record { number = count; packet = packet_at entries count }
+abbrev pub shown_places : List Entry → ℕ → ℕ → Place
+shown_places entries count second = place_with count (packet_at entries count) second
 
 -- of some records of a capture's session, which have these numbers there
-abbrev pub numbered_places : List ℕ → ℕ → Place
-numbered_places numbers count = record { number = number_at numbers count; packet = None }
+abbrev pub numbered_places : List ℕ → ℕ → ℕ → Place
+numbered_places numbers count second = place_with (number_at numbers count) None second
 
-abbrev pub places_of : Places → ℕ → Place
+abbrev pub places_of : Places → ℕ → ℕ → Place
 places_of Counted = counted_places
 places_of (Shown entries) = shown_places entries.now
 places_of (Numbered numbers) = numbered_places numbers.now
+
+-- where a record stands that is named, and its second is, if one is
+abbrev pub named_place : (ℕ → ℕ → Place) → Option ℕ → Option ℕ → Option Place
+named_place places None second = None
+named_place places (Some count) None = None
+named_place places (Some count) (Some second) = Some (places count second)

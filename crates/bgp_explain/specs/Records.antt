@@ -1,5 +1,6 @@
 -- What explaining the verdict on records answers, and what is told of it after the verdict.
-use Rattle.std.specs.Prelude.{◌≡◌, ◌⊎◌, ◌+◌, ℕ, Bool, true, false, List, None, take}
+use Rattle.std.specs.Prelude.{◌≡◌, ◌⊎◌, ◌+◌, ℕ, Bool, true, false, List, []}
+use Rattle.std.specs.Prelude.{Option, None, take}
 use Rattle.bgp_prefix.specs.Shown.{ShownRecord}
 use Rattle.bgp_prefix.specs.declared.session.Session.{Session}
 use Rattle.mrt.specs.Reader.{shown_of}
@@ -7,12 +8,12 @@ use Rattle.mrt.specs.Written.{IsAllowed}
 use Rattle.bgp_open.specs.declared.config.Config.{Config}
 use Rattle.bgp_judge.specs.Verdict.{IsVerdict, VerdictValue, Yes, No, Unfinished}
 use Rattle.bgp_recording.specs.declared.entry.Entry.{Entry}
-use Rattle.bgp_reason_text.specs.declared.style.Style.{Style}
-use Rattle.bgp_reason_text.specs.Style.{plain}
+use Rattle.bgp_why.specs.declared.endpoint.Endpoint.{Endpoint}
+use Rattle.bgp_why.specs.declared.place.Place.{Place}
+use Rattle.bgp_why.specs.declared.style.Style.{Style}
 use Rattle.bgp_tool.specs.Seen.{seen_in}
-use Rattle.bgp_explain.specs.declared.places.Place.{Place}
 use Rattle.bgp_explain.specs.declared.records.ExplainedRecords.{ExplainedRecords}
-use Rattle.bgp_explain.specs.Capture.{TellsWhy, TellsWhyNot}
+use Rattle.bgp_explain.specs.Capture.{TellsDeed, TellsLinesNot, TellsWhy, TellsWhyNot}
 use Rattle.bgp_explain.specs.LeftOut.{JudgesWithout}
 use Rattle.bgp_explain.specs.Reason.{AreSummed, HasReason}
 use Rattle.bgp_explain.specs.Tally.{tally_of, yes_lines}
@@ -34,7 +35,7 @@ pub record AreExplained {X : Type 0} (config : Config) (records : List ShownReco
 -- impossible, with its line as of a capture of this session, of an unfinished what may follow, and
 -- after a yes what the records are; or that memory was refused for the reason. The lines of a
 -- reason are in this style.
-module _ (config : Config) (style : Style) (session : Session) (places : ℕ → Place)
+module _ (config : Config) (style : Style) (session : Session) (places : ℕ → ℕ → Place)
     (records : List ShownRecord) where
   abbrev pub SaysOfRecords : VerdictValue → List ℕ → Type 0
   SaysOfRecords (Yes ends) more =
@@ -42,7 +43,7 @@ module _ (config : Config) (style : Style) (session : Session) (places : ℕ →
   SaysOfRecords (No count) more =
       TellsWhyNot config style session places (take count records) (take (count + 1) records)
       more
-  SaysOfRecords Unfinished more = TellsWhy config style places records None more
+  SaysOfRecords Unfinished more = TellsWhy config style session None places records None more
 
   -- where the details of the reason are there, and without a reason where they aren't
   abbrev pub SaysWhere : Bool → VerdictValue → List ℕ → Type 0
@@ -50,10 +51,28 @@ module _ (config : Config) (style : Style) (session : Session) (places : ℕ →
   SaysWhere true verdict more = SaysOfRecords verdict more
   SaysWhere false verdict more = more ≡ no_memory_line
 
--- with a reason or without, as `bgp judge` tells it
-module _ (config : Config) (session : Session) (places : ℕ → Place) (records : List ShownRecord)
-  where
-    abbrev pub SaysOrNot : VerdictValue → List ℕ → Type 0
-    SaysOrNot (Yes ends) more = SaysOfRecords config plain session places records (Yes ends) more
-    SaysOrNot verdict more =
-        SaysOfRecords config plain session places records verdict more ⊎ (more ≡ no_memory_line)
+  -- with a reason or without
+  abbrev pub SaysOrNot : VerdictValue → List ℕ → Type 0
+  SaysOrNot (Yes ends) more = SaysOfRecords (Yes ends) more
+  SaysOrNot verdict more = SaysOfRecords verdict more ⊎ (more ≡ no_memory_line)
+
+-- ---- in pieces
+
+-- what the impossible record of a no shows was done, and what is wrong with it: nothing else
+module _ (config : Config) (style : Style) (session : Session) (peer : Endpoint)
+    (records : List ShownRecord) where
+  abbrev pub SaysDeed : VerdictValue → List ℕ → Type 0
+  SaysDeed (Yes ends) text = text ≡ []
+  SaysDeed (No count) text =
+      TellsDeed config style session peer (take count records) (take (count + 1) records) text
+  SaysDeed Unfinished text = text ≡ []
+
+-- the lines of the reason without the first one of a no; nothing after a yes
+module _ (config : Config) (style : Style) (session : Session) (another : Option ℕ)
+    (places : ℕ → ℕ → Place) (records : List ShownRecord) where
+  abbrev pub SaysLines : VerdictValue → List ℕ → Type 0
+  SaysLines (Yes ends) text = text ≡ []
+  SaysLines (No count) text =
+      TellsLinesNot config style session another places (take count records)
+      (take (count + 1) records) text
+  SaysLines Unfinished text = TellsWhy config style session another places records None text

@@ -22,17 +22,17 @@ skipped_of pieces = record {
 abbrev pub first_text : Option Endpoints → List ℕ
 first_text None = []
 first_text (Some ends) =
-    codes ", first --peer " ++ (address_text ends.peer ++ (codes " --local "
+    codes ", the first of --peer " ++ (address_text ends.peer ++ (codes " --local "
     ++ address_text ends.local))
 
 unfoldable pub sessions_line : Skipped → List ℕ
 sessions_line skipped =
-    codes "skipped " ++ (decimal skipped.counts.other_sessions ++ (codes " of other sessions"
-    ++ (first_text (slice_index_or skipped.others 0 None) ++ codes "\n")))
+    codes "  records of other sessions: " ++ (decimal skipped.counts.other_sessions
+    ++ (first_text (slice_index_or skipped.others 0 None) ++ codes "\n"))
 
 unfoldable pub kinds_line : Skipped → List ℕ
 kinds_line skipped =
-    codes "skipped " ++ (decimal skipped.counts.other_kinds ++ codes " of other kinds\n")
+    codes "  records of other kinds: " ++ (decimal skipped.counts.other_kinds ++ codes "\n")
 
 -- of the records that are made of a recording there are none
 abbrev pub skipped_lines : Option Skipped → List ℕ

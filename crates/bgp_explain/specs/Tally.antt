@@ -37,17 +37,18 @@ tally_of records = tally_from no_tally fresh_told records
 
 unfoldable pub records_line : Tally → List ℕ
 records_line t =
-    codes "records " ++ (decimal (t.received + t.sent + t.changes)
-    ++ (codes ": " ++ (decimal t.received ++ (codes " received, " ++ (decimal t.sent
-    ++ (codes " sent, " ++ (decimal t.changes ++ codes " changes\n")))))))
+    codes "  records of the session: " ++ (decimal (t.received + t.sent + t.changes)
+    ++ (codes " (received " ++ (decimal t.received ++ (codes ", sent " ++ (decimal t.sent
+    ++ (codes ", changes of state " ++ (decimal t.changes ++ codes ")\n")))))))
 
 unfoldable pub ignored_line : Tally → List ℕ
-ignored_line t = codes "ignored in Idle " ++ (decimal t.ignored ++ codes "\n")
+ignored_line t = codes "  received in Idle, and ignored: " ++ (decimal t.ignored ++ codes "\n")
 
--- that nothing was judged, where no change leaves Idle
+-- nothing was judged, if no change leaves Idle
 abbrev pub idle_note : Bool → List ℕ
 idle_note left_idle =
-    if left_idle then [] else codes "note no record leaves Idle: nothing was judged\n"
+    if left_idle then []
+    else codes "  note: no record leaves Idle, so nothing was judged\n"
 
 abbrev pub yes_lines : Tally → Option Skipped → Bool → List ℕ
 yes_lines t skipped left_idle =

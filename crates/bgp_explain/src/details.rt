@@ -11,7 +11,7 @@ ghost use Rattle.bgp_explain.specs.Lacked.{lacked_of};
 use crate::explained::{Impossible, Reason};
 use bgp_machine::{Fsm, Heard, hear};
 use bgp_open::{Config, Link};
-use bgp_reason_text::{AskedUpdate, Lacks};
+use bgp_why::{AskedUpdate, Lacks};
 use std::alloc::{AllocError, Allocator, Global};
 
 /// What a reason says besides, as far as it takes memory.

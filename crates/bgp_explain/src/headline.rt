@@ -47,19 +47,20 @@ pub(crate) fn write_explained<W: Sink, A: Allocator + Copy>(
 /// It writes exactly the text of the one verdict on the records that the octets spell, answers its
 /// exit status, and then writes:
 ///
-/// * after a no the line of the first impossible record; the state that the records before it
-///   tell; the message received last, and what it asks for; each kind of record that could have
-///   stood in its place, and no other, with what the record lacks of it; and each note whose
-///   condition holds. What both OPENs offer is told of the first OPEN that was sent and of the one
-///   that settles the link: that nothing is configured to be offered, though both offer several
-///   paths of a family or IPv6 next hops of IPv4 routes. The other conditions stand in `specs/Notes`
-///   of bgp_reason_text.
+/// * after a no the line of the first impossible record, with what is wrong with it; its message in
+///   words, if it was sent; the state that the records before it tell; the message received last,
+///   and what it asks for; each kind of record that could have stood in its place, and no other,
+///   with what the record lacks of it; and each note whose condition holds. What both OPENs offer
+///   is told of the first OPEN that was sent and of the one that settles the link: that nothing is
+///   configured to be offered, though both offer several paths of a family or IPv6 next hops of
+///   IPv4 routes. The other conditions stand in `specs/Notes` of bgp_why, and that of the
+///   NOTIFICATION that was sent already in `specs/Why`.
 /// * after an unfinished the same, of what may follow all records.
 /// * after a yes how many records there are, and of which kinds; and how many were skipped, since
 ///   they are of another session, with the addresses of the first of these, or of another kind.
 ///
 /// After a refusal it writes nothing more. Where the sink failed, a beginning of that text is
-/// written, and the status is 5. Where memory was refused for the reason, `note no memory for the
+/// written, and the status is 5. Where memory was refused for the reason, `note: out of memory for the
 /// reason` stands in its place, and the verdict and the status are told all the same: so memory is
 /// refused in a verdict's place only where [`judge_capture`](bgp_tool::judge_capture) may lack it.
 ///

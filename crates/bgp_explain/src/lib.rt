@@ -11,6 +11,7 @@
 #![tactic(auto)]
 
 mod capture;
+mod deed;
 mod details;
 mod explained;
 mod headline;
@@ -25,10 +26,12 @@ mod progress;
 mod records;
 mod report;
 mod sending;
+mod sent_line;
 mod skipped;
 mod so_far;
 mod tally;
 mod texts;
+mod why;
 
 pub use capture::explain_with;
 pub use details::Details;
@@ -40,10 +43,12 @@ pub use laws::{
     each_verdict_is_explained_in_one_way, the_last_message_is_told, what_could_have_stood_is_told,
 };
 pub use left_out::LeftOut;
-pub use moments::{Moments, SentNotification};
+pub use moments::{Moments, SentNotification, first_second};
 pub use opened::{JudgedCapture, judge_opened};
-pub use places::{Place, Places};
-pub use records::{ExplainedRecords, explain_records, put_explained_records};
+pub use places::Places;
+pub use records::{
+    ExplainedRecords, explain_records, put_deed_of, put_explained_records, put_lines_of,
+};
 pub use report::Report;
 pub use skipped::Skipped;
 pub use tally::Tally;

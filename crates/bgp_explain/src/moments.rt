@@ -1,6 +1,6 @@
 //! The times of what a session's records tell, and the NOTIFICATION that was sent already.
 
-ghost use Rattle.std.specs.Prelude.{◌≡◌, ◌+◌, ◌++◌, ◌∷◌, [], List, IfSome, IfNone, length};
+ghost use Rattle.std.specs.Prelude.{◌≡◌, ◌+◌, ◌++◌, ◌∷◌, [], List, IfSome, IfNone, length, map};
 ghost use Rattle.bgp_prefix.specs.Shown.{ShownRecord, second_of};
 ghost use Rattle.bgp_open.specs.declared.config.Config.{Config as TheConfig};
 ghost use Rattle.bgp_machine.specs.Want.{limit_on};
@@ -9,8 +9,8 @@ ghost use Rattle.bgp_reason.specs.Sending.{sending_link};
 ghost use Rattle.bgp_reason.specs.Told.{told as told_by};
 ghost use Rattle.bgp_tool.specs.Seen.{leaves_idle};
 ghost use Rattle.bgp_explain.specs.declared.moments.SentNotification.{SentNotification as TheSent};
-ghost use Rattle.bgp_explain.specs.Moments.{AreMomentsOf, IsSentAs, first_with, named_with};
-ghost use Rattle.bgp_explain.specs.Moments.{notification_with};
+ghost use Rattle.bgp_explain.specs.Moments.{AreMomentsOf, IsSentAs, first_second, first_with};
+ghost use Rattle.bgp_explain.specs.Moments.{named_with, notification_with};
 
 use bgp_open::{Link, read_notification};
 use bgp_prefix::Seconds;
@@ -50,13 +50,24 @@ pub struct Moments {
 }
 
 /// Returns the second of a record.
-fn second_in(shown: &Record<'_>) -> Seconds
+pub(crate) fn second_in(shown: &Record<'_>) -> Seconds
     ensures { result ≡ second_of (shown_of shown.now) }
 {
     match *shown {
         Record::In(second, _) => second,
         Record::Out(second, _) => second,
         Record::Change(second, _, _) => second,
+    }
+}
+
+/// Returns the second of the first of these records, 0 if there is none: in the style that begins
+/// with it a time of the same day has no date.
+pub fn first_second(records: &[Record<'_>]) -> Seconds
+    ensures { result ≡ first_second (map shown_of records.now) }
+{
+    match records {
+        [] => 0,
+        [first, ..] => second_in(first),
     }
 }
 
@@ -97,7 +108,11 @@ fn sent_limit(link: Option<Link>) -> Limit
 }
 
 /// Returns the NOTIFICATION that a record shows, with this number, if it was sent and is whole.
-fn sent_in(link: Option<Link>, number: u64, shown: &Record<'_>) -> Option<SentNotification>
+pub(crate) fn sent_in(
+    link: Option<Link>,
+    number: u64,
+    shown: &Record<'_>,
+) -> Option<SentNotification>
     ensures some { IfSome result (λ sent. (sent.number ≡ number)
         × IsSentAs link (shown_of shown.now) sent) }
     ensures none { IfNone result ((sent : TheSent) → ¬ IsSentAs link (shown_of shown.now) sent) }

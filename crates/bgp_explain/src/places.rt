@@ -1,18 +1,12 @@
 //! Where the records that are judged stand.
 
 ghost use Rattle.std.specs.Prelude.{◌≡◌};
-ghost use Rattle.bgp_explain.specs.Places.{number_at, packet_at, places_of};
+ghost use Rattle.bgp_explain.specs.Places.{named_place, number_at, packet_at, place_with};
+ghost use Rattle.bgp_explain.specs.Places.{places_of};
 
+use bgp_prefix::Seconds;
 use bgp_recording::Entry;
-
-/// Where a record stands.
-#[derive(Clone, Copy, Debug, PartialEq, Eq)]
-pub struct Place {
-    /// Its number among its session's records, from 1.
-    pub number: u64,
-    /// The packet that shows it, in a recording.
-    pub packet: Option<u64>,
-}
+use bgp_why::Place;
 
 /// Where the records that are judged stand.
 #[derive(Clone, Copy)]
@@ -25,7 +19,7 @@ pub enum Places<'a> {
     Numbered(&'a [u64]),
 }
 
-/// The packet of the entry with this count, from 1, if there is one.
+/// Returns the packet of the entry with this count, from 1, if there is one.
 fn packet_at(entries: &[Entry<'_>], count: u64) -> Option<u64>
     ensures { result ≡ packet_at entries.now count }
 {
@@ -33,7 +27,7 @@ fn packet_at(entries: &[Entry<'_>], count: u64) -> Option<u64>
     Some(entries.get(index as usize)?.packet)
 }
 
-/// The number with this count, from 1, or the count itself where there are fewer.
+/// Returns the number with this count, from 1, or the count itself where there are fewer.
 fn number_at(numbers: &[u64], count: u64) -> u64
     ensures { result ≡ number_at numbers.now count }
 {
@@ -46,22 +40,43 @@ fn number_at(numbers: &[u64], count: u64) -> u64
     }
 }
 
-/// Where the record stands that has this count among those that are judged.
-pub(crate) fn place_of(places: Places<'_>, count: u64) -> Place
-    ensures { result ≡ places_of places.entry count }
+/// Returns the place of a record without a fraction of its second.
+fn place_with(number: u64, packet: Option<u64>, second: Seconds) -> Place
+    ensures { result ≡ place_with number packet second }
+{
+    Place {
+        number,
+        packet,
+        second,
+        micro: None,
+    }
+}
+
+/// Returns where the record stands that has this count among those that are judged, and this
+/// second.
+pub(crate) fn place_of(places: Places<'_>, count: u64, second: Seconds) -> Place
+    ensures { result ≡ places_of places.entry count second }
 {
     match places {
-        Places::Counted => Place {
-            number: count,
-            packet: None,
-        },
-        Places::Shown(entries) => Place {
-            number: count,
-            packet: packet_at(entries, count),
-        },
-        Places::Numbered(numbers) => Place {
-            number: number_at(numbers, count),
-            packet: None,
-        },
+        Places::Counted => place_with(count, None, second),
+        Places::Shown(entries) => place_with(count, packet_at(entries, count), second),
+        Places::Numbered(numbers) => place_with(number_at(numbers, count), None, second),
+    }
+}
+
+/// Returns where a record stands that is named, if one is.
+pub(crate) fn named_place(
+    places: Places<'_>,
+    named: Option<u64>,
+    second: Option<Seconds>,
+) -> Option<Place>
+    ensures { result ≡ named_place (places_of places.entry) named second }
+{
+    let Some(count) = named else {
+        return None;
+    };
+    match second {
+        None => None,
+        Some(second) => Some(place_of(places, count, second)),
     }
 }

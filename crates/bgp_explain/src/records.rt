@@ -1,18 +1,20 @@
 //! The verdict on records, and why it is a no or unfinished.
 
-ghost use Rattle.std.specs.Prelude.{List, ℕ, IfOk, OnErr, is_some, map};
+ghost use Rattle.std.specs.Prelude.{List, ℕ, Some, IfOk, OnErr, is_some, map};
 ghost use Rattle.bgp_prefix.specs.Shown.{ShownRecord};
 ghost use Rattle.mrt.specs.Reader.{shown_of};
 ghost use Rattle.bgp_machine.specs.Run.{Begins};
+ghost use Rattle.bgp_open.specs.declared.config.Config.{Config as TheConfig};
 ghost use Rattle.bgp_judge.specs.Memory.{LacksMemoryFor};
 ghost use Rattle.bgp_judge.specs.Verdict.{verdict_value};
 ghost use Rattle.bgp_text.specs.Lines.{Writes};
 ghost use Rattle.bgp_explain.specs.Details.{AreDetailsOf};
 ghost use Rattle.bgp_explain.specs.Places.{places_of};
 ghost use Rattle.bgp_explain.specs.Progress.{IsAt};
-ghost use Rattle.bgp_explain.specs.Records.{AreExplained, SaysWhere};
+ghost use Rattle.bgp_explain.specs.Records.{AreExplained, SaysDeed, SaysLines, SaysWhere};
 ghost use Rattle.bgp_explain.specs.Text.{CanBePutOf};
 
+use crate::deed::put_deed_text;
 use crate::details::{Details, details_of};
 use crate::explained::Reason;
 use crate::left_out::LeftOut;
@@ -20,12 +22,13 @@ use crate::places::Places;
 use crate::so_far::Progress;
 use crate::tally::{Tally, put_yes_lines};
 use crate::texts::put_any_reason;
+use crate::why::put_lines;
 use bgp_judge::{Tracker, Verdict};
 use bgp_open::Config;
 use bgp_prefix::Session;
-use bgp_reason_text::Style;
 use bgp_text::Lines;
 use bgp_tool::Seen;
+use bgp_why::{Endpoint, Style};
 use mrt::{Record, Sink};
 use std::alloc::{AllocError, Allocator, Global};
 
@@ -137,5 +140,71 @@ pub fn put_explained_records<W: Sink, A: Allocator + Copy>(
         Verdict::Unfinished => {
             put_any_reason(lines, config, style, session, places, reason, details);
         }
+    }
+}
+
+/// Puts what the impossible record of a no shows was done, between the local system and this peer,
+/// and what is wrong with it, without a line end: `sent UPDATE to 192.0.2.2, not allowed here`.
+/// Nothing is put after another verdict.
+///
+/// The record is one that a capture of this session can hold. The details are those of the reason,
+/// which has to be there.
+pub fn put_deed_of<W: Sink, A: Allocator + Copy>(
+    lines: &mut Lines<'_, W>,
+    style: &Style,
+    session: &Session,
+    peer: &Endpoint,
+    explained: &ExplainedRecords<A>,
+    details: &Details<'_, A>,
+)
+    requires { CanBePutOf session.now explained.now.reason }
+    ensures { (config : TheConfig) (records : List ShownRecord)
+        → AreDetailsOf config explained.now.reason (Some details.now)
+        → AreExplained config records explained.now
+        → (text : List ℕ)
+        × SaysDeed config style.now session.now peer.now records
+        (verdict_value explained.now.verdict) text
+        × Writes lines.old lines.new text }
+{
+    match &explained.verdict {
+        Verdict::Yes(_) => lines.put(b""),
+        Verdict::No(_) => {
+            if let Some(reason) = &explained.reason {
+                put_deed_text(lines, style, session, peer, reason, &details.lacks);
+            }
+        }
+        Verdict::Unfinished => lines.put(b""),
+    }
+}
+
+/// Puts the lines of the reason of a no, without the first one, or of an unfinished: the message of
+/// the impossible record in words, what the records before tell, all that could have stood in its
+/// place or may follow, and notes. Nothing is put after a yes. If a number is given, the
+/// configuration is one with any other AS number of the peer.
+///
+/// The records stand at these places, and the impossible one is one that a capture of this session
+/// can hold. The details are those of the reason, which has to be there.
+pub fn put_lines_of<W: Sink, A: Allocator + Copy>(
+    lines: &mut Lines<'_, W>,
+    config: &Config,
+    style: &Style,
+    session: &Session,
+    another: Option<u32>,
+    places: Places<'_>,
+    explained: &ExplainedRecords<A>,
+    details: &Details<'_, A>,
+)
+    requires can { CanBePutOf session.now explained.now.reason }
+    requires details { AreDetailsOf config.now explained.now.reason (Some details.now) }
+    ensures { (records : List ShownRecord) → AreExplained config.now records explained.now
+        → (text : List ℕ)
+        × SaysLines config.now style.now session.now another (places_of places.entry) records
+        (verdict_value explained.now.verdict) text
+        × Writes lines.old lines.new text }
+{
+    if let Some(reason) = &explained.reason {
+        put_lines(
+            lines, config, style, session, another, places, reason, details,
+        );
     }
 }

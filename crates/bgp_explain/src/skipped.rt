@@ -50,7 +50,7 @@ fn put_first<W: Sink>(lines: &mut Lines<'_, W>, first: Option<Endpoints>)
     ensures { Writes lines.old lines.new (first_text first) }
 {
     if let Some(Endpoints { peer, local }) = first {
-        lines.put(b", first --peer ");
+        lines.put(b", the first of --peer ");
         put_address(lines, peer);
         lines.put(b" --local ");
         put_address(lines, local);
@@ -61,9 +61,8 @@ fn put_first<W: Sink>(lines: &mut Lines<'_, W>, first: Option<Endpoints>)
 fn put_sessions<W: Sink>(lines: &mut Lines<'_, W>, skipped: &Skipped)
     ensures { Writes lines.old lines.new (sessions_line skipped.now) }
 {
-    lines.put(b"skipped ");
+    lines.put(b"  records of other sessions: ");
     lines.put_decimal(skipped.counts.other_sessions);
-    lines.put(b" of other sessions");
     put_first(lines, skipped.others[0]);
     lines.put(b"\n");
 }
@@ -72,9 +71,9 @@ fn put_sessions<W: Sink>(lines: &mut Lines<'_, W>, skipped: &Skipped)
 fn put_kinds<W: Sink>(lines: &mut Lines<'_, W>, skipped: &Skipped)
     ensures { Writes lines.old lines.new (kinds_line skipped.now) }
 {
-    lines.put(b"skipped ");
+    lines.put(b"  records of other kinds: ");
     lines.put_decimal(skipped.counts.other_kinds);
-    lines.put(b" of other kinds\n");
+    lines.put(b"\n");
 }
 
 /// Puts the lines on what a capture holds besides, if there is one.

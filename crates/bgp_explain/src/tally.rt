@@ -79,22 +79,22 @@ fn put_records<W: Sink>(lines: &mut Lines<'_, W>, tally: &Tally)
     ensures { Writes lines.old lines.new (records_line tally.now) }
 {
     let all = u128::from(tally.received) + u128::from(tally.sent) + u128::from(tally.changes);
-    lines.put(b"records ");
+    lines.put(b"  records of the session: ");
     lines.put_decimal(all);
-    lines.put(b": ");
+    lines.put(b" (received ");
     lines.put_decimal(tally.received);
-    lines.put(b" received, ");
+    lines.put(b", sent ");
     lines.put_decimal(tally.sent);
-    lines.put(b" sent, ");
+    lines.put(b", changes of state ");
     lines.put_decimal(tally.changes);
-    lines.put(b" changes\n");
+    lines.put(b")\n");
 }
 
 /// The line on what is ignored.
 fn put_ignored<W: Sink>(lines: &mut Lines<'_, W>, tally: &Tally)
     ensures { Writes lines.old lines.new (ignored_line tally.now) }
 {
-    lines.put(b"ignored in Idle ");
+    lines.put(b"  received in Idle, and ignored: ");
     lines.put_decimal(tally.ignored);
     lines.put(b"\n");
 }
@@ -106,7 +106,7 @@ fn idle_note(left_idle: bool) -> &'static [u8]
     if left_idle {
         b""
     } else {
-        b"note no record leaves Idle: nothing was judged\n"
+        b"  note: no record leaves Idle, so nothing was judged\n"
     }
 }
 

@@ -39,3 +39,25 @@ error_text e (Some cause) = codes_text e ++ (codes ": " ++ plain_error_text caus
 -- a NOTIFICATION: its error, with the cause of a Hard Reset if it has one
 unfoldable pub named_notification : ErrorFields → List ℕ
 named_notification e = codes "notification " ++ error_text e (cause_of e)
+
+-- ---- the data alone, as a reason shows them
+
+-- codes with their names behind them, as in `6/4 (Cease, Administrative Reset)`
+unfoldable pub bracketed_codes_text : ErrorFields → List ℕ
+bracketed_codes_text e =
+    decimal e.code ++ (codes "/" ++ (decimal e.subcode ++ (codes " ("
+    ++ (error_name e.code e.subcode ++ codes ")"))))
+
+-- what data say, or else the data in hexadecimal: nothing for none
+unfoldable pub plain_data_text : Option DataValue → List ℕ → List ℕ
+plain_data_text None detail = encode_lower detail
+plain_data_text (Some said) detail = data_text said
+
+unfoldable pub caused_data_text : ErrorFields → Option ErrorFields → List ℕ
+caused_data_text e None = plain_data_text (data_value e) e.detail
+caused_data_text e (Some cause) =
+    bracketed_codes_text cause ++ detail_text (data_value cause) cause.detail
+
+-- the data of an error: for a Hard Reset with a cause, the cause's codes and its data
+unfoldable pub error_data_text : ErrorFields → List ℕ
+error_data_text e = caused_data_text e (cause_of e)

@@ -19,9 +19,10 @@ mod update_line;
 
 pub use form::LineForm;
 pub use message_line::put_named;
-pub use notifications::put_notification;
+pub use notifications::{put_error_data, put_notification};
 pub use open_line::{put_malformed_open, put_open};
 pub use others::{put_named_change, put_named_fault, put_named_rest, put_named_stream_fault};
 pub use quoting::put_quoted;
+pub use record_line::put_named_message;
 pub use teller::Teller;
 pub use update_line::put_update;

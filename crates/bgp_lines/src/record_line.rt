@@ -16,8 +16,15 @@ use bgp_values::Reading;
 use bgp_wire::{HeaderVerdict, Limit, check_header, header_at};
 use mrt::Sink;
 
-/// Puts the text of a message that a record holds, which may be so long.
-fn put_octets<W: Sink>(lines: &mut Lines<'_, W>, reading: Reading, limit: Limit, octets: &[u8])
+/// Puts the text of a message that a record holds, which may be so long, without a line's end: what
+/// [`put_named`] puts, or for a header with faults what [`put_named_fault`] puts. It has a header,
+/// and its length is the one that the header says, if that is a length that a message may have.
+pub fn put_named_message<W: Sink>(
+    lines: &mut Lines<'_, W>,
+    reading: Reading,
+    limit: Limit,
+    octets: &[u8],
+)
     requires long { 19 ≤ length octets.now }
     requires whole { ¬ HasOtherLength limit octets.now }
     ensures { (text : List ℕ) × IsNamedMessage reading limit octets.now text
@@ -65,7 +72,7 @@ pub(crate) fn put_message_of<W: Sink>(
     lines.put_decimal(second);
     put_packet(lines, packet);
     lines.put(went.as_bytes());
-    put_octets(
+    put_named_message(
         lines,
         reading,
         Limit::with_extended(session.extended),

@@ -1,3 +1,5 @@
+pub mod Causes
+pub mod Connections
 pub mod Firsts
 pub mod Lines
 pub mod Recording

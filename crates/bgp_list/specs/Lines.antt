@@ -1,7 +1,6 @@
 -- The lines of a list: connection by connection, and of two addresses at once where none of their
 -- connections can be told.
-use Rattle.std.specs.Prelude.{◌≡◌, ◌++◌, ℕ, List, Option, None, Some, codes, reverse}
-use Rattle.bgp_prefix.specs.Text.{address_text}
+use Rattle.std.specs.Prelude.{◌≡◌, ℕ, List, Option, None, Some, reverse}
 use Rattle.bgp_prefix.specs.declared.session.Session.{Session}
 use Rattle.packets.specs.Packet.{Recorded}
 use Rattle.segments.specs.declared.fault.PacketFault.{PacketFault}
@@ -12,26 +11,24 @@ use Rattle.streams.specs.Passed.{Segment}
 use Rattle.streams.specs.declared.connection.Connection.{Connection}
 use Rattle.streams.specs.declared.connection.Opening.{Opening}
 use Rattle.streams.specs.declared.fault.Fault.{Fault}
-use Rattle.bgp_import.specs.ListText.{octets_text, opening_text, other_side, refused_text}
+use Rattle.bgp_import.specs.ListText.{other_side}
 use Rattle.bgp_import.specs.declared.refusal.Refusal.{Refusal}
 use Rattle.bgp_import.specs.declared.refusal.Refusal.TheVariants as refusals
 use Rattle.bgp_import.specs.Octets.{octets_from}
 use Rattle.bgp_import.specs.Pairs.{AreOrdered, session_of}
 use Rattle.bgp_import.specs.Places.{HasConnection}
 use Rattle.bgp_import.specs.Talks.{IsRefusedAt}
+use Rattle.bgp_list.specs.Connections.{connection_text, refused_between_text}
+use Rattle.bgp_list.specs.Connections.{refused_connection_text}
 use Rattle.bgp_list.specs.declared.line.Line.{Line}
 use Rattle.bgp_list.specs.declared.line.Line.TheVariants.{Octets, Refused, AllRefused}
 
 -- ---- the text
 
 abbrev pub line_text : Line → List ℕ
-line_text (Octets session opening first second) =
-    opening_text session opening ++ (codes " " ++ (octets_text first second ++ codes "\n"))
-line_text (Refused session opening refusal) =
-    opening_text session opening ++ (codes " " ++ (refused_text refusal ++ codes "\n"))
-line_text (AllRefused addresses refusal) =
-    codes "session " ++ (address_text addresses.from ++ (codes " "
-    ++ (address_text addresses.to ++ (codes " " ++ (refused_text refusal ++ codes "\n")))))
+line_text (Octets session opening first second) = connection_text session opening first second
+line_text (Refused session opening refusal) = refused_connection_text session opening refusal
+line_text (AllRefused addresses refusal) = refused_between_text addresses refusal
 
 -- the refusal in a line, if there is one
 abbrev pub refusal_in : Line → Option Refusal

@@ -12,7 +12,7 @@ use Rattle.mrt.specs.declared.sink.Sink as sinks
 use Rattle.bgp_text.specs.Lines.{Writes}
 use Rattle.bgp_text.specs.declared.lines.Lines.{Lines}
 use Rattle.bgp_tool.specs.Answer.{IsWritten}
-use Rattle.bgp_import.specs.Refusals.{cause_of, refusal_line}
+use Rattle.bgp_import.specs.Refusals.{cause_of}
 use Rattle.bgp_import.specs.declared.refusal.Cause.{Cause}
 use Rattle.bgp_import.specs.declared.refusal.Cause.TheVariants as causes
 use Rattle.bgp_import.specs.declared.refusal.Refusal.{Refusal}
@@ -22,6 +22,7 @@ use Rattle.bgp_import.specs.Reading.{IsMemory, IsReadTo, cut_short_at, failures_
 use Rattle.bgp_import.specs.Talks.{HoldsEach}
 use Rattle.bgp_import.specs.Wrapped.{AreCounted}
 use Rattle.bgp_import.specs.declared.talks.Talks.{Talks}
+use Rattle.bgp_list.specs.Connections.{refused_text}
 use Rattle.bgp_list.specs.Firsts.{firsts_after, with_first}
 use Rattle.bgp_list.specs.Lines.{IsLineAt, line_text, refusal_in}
 use Rattle.bgp_list.specs.declared.line.Line.{Line}
@@ -66,7 +67,7 @@ pub record PutsAll {T : Type 0} {sink : sinks.Ghosts T} {Z : Type 0} (port : ℕ
 -- what is told of the file, where that is refused
 abbrev pub file_text : Option Refusal → List ℕ
 file_text None = []
-file_text (Some refusal) = refusal_line refusal
+file_text (Some refusal) = refused_text refusal
 
 abbrev pub cause_status : Cause → ℕ
 cause_status causes.Recording = 3

@@ -10,10 +10,12 @@ ghost use Rattle.bgp_tool.specs.declared.note.CaptureCommand.TheVariants.{List a
 ghost use Rattle.mrt_sessions.specs.File.{Located};
 ghost use Rattle.mrt_sessions.specs.Sessions.{HoldsSessions, held_records};
 ghost use Rattle.bgp_list.specs.Capture.{Lists, ListsCapture, status_of};
-ghost use Rattle.bgp_list.specs.Sessions.{fault_text, session_line, sessions_text};
+ghost use Rattle.bgp_list.specs.Sessions.{fault_text, refused_text, session_line};
+ghost use Rattle.bgp_list.specs.Sessions.{sessions_text};
 
+use crate::cause::capture_cause;
 use crate::session::put_session;
-use bgp_text::{Lines, put_refused};
+use bgp_text::Lines;
 use bgp_tool::{CaptureCommand, Note, Status, hand_over, without_records};
 use mrt::{CaptureFault, FaultKind, Sink, Source};
 use mrt_sessions::{Addresses, Ending, Sessions, hold, records_in};
@@ -100,7 +102,23 @@ fn put_listed<W: Sink, A: Allocator + Copy>(
     (sessions.in_order().len(), file.fault(ending))
 }
 
-/// Puts why a file isn't read to its end, if it isn't.
+/// Puts the line of what is refused in a capture.
+fn put_refused<W: Sink>(lines: &mut Lines<'_, W>, fault: CaptureFault)
+    ensures { Writes lines.old lines.new (refused_text fault) }
+{
+    lines.put(b"refused at octet ");
+    lines.put_decimal(fault.offset);
+    lines.put(b": ");
+    lines.put_decimal(fault.kind.number());
+    lines.put(b" ");
+    lines.put(fault.kind.name().as_bytes());
+    lines.put(b", ");
+    lines.put(capture_cause(fault.kind).as_bytes());
+    lines.put(b"\n");
+}
+
+/// Puts why a capture isn't read to its end, if it isn't:
+/// `refused at octet 408: 8 AddPath, ADD-PATH (RFC 8050), which is not read`.
 pub fn put_fault<W: Sink>(lines: &mut Lines<'_, W>, fault: Option<CaptureFault>)
     ensures { Writes lines.old lines.new (fault_text fault) }
 {
@@ -138,7 +156,7 @@ fn status_of(fault: Option<CaptureFault>) -> Status
 }
 
 /// Writes a line for each session in a capture, in the order of their first records, and last,
-/// where the file can't be read to its end, why: `capture refused: NUMBER NAME at OFFSET`. It
+/// where the file can't be read to its end, why: `refused at octet N: NUMBER NAME, CAUSE`. It
 /// answers the exit status:
 ///
 /// * 0: the file was read to its end.

@@ -11,6 +11,8 @@
 #![tactic(auto)]
 
 mod capture;
+mod cause;
+mod connection;
 mod firsts;
 mod laws;
 mod line;
@@ -19,9 +21,12 @@ mod recording;
 mod session;
 
 pub use capture::{ListedCapture, fault_status, list_capture, put_fault};
+pub use connection::{
+    endpoint_of, put_connection, put_refused, put_refused_between, put_refused_connection,
+};
 pub use firsts::{NUMBERS, add_first};
 pub use laws::each_of_them_is_listed;
 pub use line::Line;
 pub use listed::{ListedRecording, NothingListed};
 pub use recording::list_recording;
-pub use session::put_session;
+pub use session::{first_second, put_session};

@@ -7,12 +7,10 @@ ghost use Rattle.streams.specs.Passed.{Segment};
 ghost use Rattle.bgp_import.specs.Listed.{IsListed};
 ghost use Rattle.bgp_text.specs.Lines.{Writes};
 
-use bgp_import::{
-    Listed, Refusal, octets_from, other_side, put_counts, put_opening, put_refused, refused,
-    selection_of,
-};
+use crate::connection::{put_connection, put_refused_between, put_refused_connection};
+use bgp_import::{Listed, Refusal, octets_from, other_side, refused, selection_of};
 use bgp_prefix::Session;
-use bgp_text::{Lines, put_address};
+use bgp_text::Lines;
 use mrt::Sink;
 use segments::Addresses;
 use std::alloc::Allocator;
@@ -91,25 +89,13 @@ impl Line {
     {
         match self {
             Line::Octets(session, opening, first, second) => {
-                put_opening(lines, &session, opening);
-                lines.put(b" ");
-                put_counts(lines, first, second);
-                lines.put(b"\n");
+                put_connection(lines, &session, opening, first, second);
             }
             Line::Refused(session, opening, refusal) => {
-                put_opening(lines, &session, opening);
-                lines.put(b" ");
-                put_refused(lines, refusal);
-                lines.put(b"\n");
+                put_refused_connection(lines, &session, opening, refusal);
             }
             Line::AllRefused(addresses, refusal) => {
-                lines.put(b"session ");
-                put_address(lines, addresses.from);
-                lines.put(b" ");
-                put_address(lines, addresses.to);
-                lines.put(b" ");
-                put_refused(lines, refusal);
-                lines.put(b"\n");
+                put_refused_between(lines, addresses, refusal);
             }
         }
     }

@@ -14,7 +14,8 @@ pub struct ListedRecording {
     pub status: u8,
     /// The port whose connections were listed.
     pub port: u16,
-    /// How many lines: of connections, and of two addresses of whose connections none can be told.
+    /// How many are listed: connections, and pairs of addresses of whose connections none can be
+    /// told.
     pub lines: usize,
     /// How many packets were looked at: all that the recording has, where it can be read on.
     pub packets: u64,

@@ -9,11 +9,12 @@ ghost use Rattle.bgp_list.specs.Firsts.{AreApart};
 ghost use Rattle.bgp_list.specs.Recording.{ListsRecording, PutsAll, file_text, status_of};
 ghost use Rattle.bgp_list.specs.Recording.{status_over};
 
+use crate::connection::put_refused;
 use crate::firsts::{NUMBERS, add_first};
 use crate::line::Line;
 use crate::listed::ListedRecording;
 use arrayvec::ArrayVec;
-use bgp_import::{Cause, Refusal, Talks, cut_short_at, listed_in, put_refusal, take_all};
+use bgp_import::{Cause, Refusal, Talks, cut_short_at, listed_in, take_all};
 use bgp_text::Lines;
 use bgp_tool::{Status, hand_over};
 use mrt::{Sink, Source};
@@ -55,7 +56,7 @@ fn put_file<W: Sink>(lines: &mut Lines<'_, W>, refusal: Option<Refusal>)
     ensures { Writes lines.old lines.new (file_text refusal) }
 {
     match refusal {
-        Some(refusal) => put_refusal(lines, refusal),
+        Some(refusal) => put_refused(lines, refusal),
         None => lines.put(b""),
     }
 }

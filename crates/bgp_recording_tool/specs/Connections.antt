@@ -1,6 +1,6 @@
 -- What judging tells of the connections of a session, in a recording that was read to its end.
 use Rattle.std.specs.Prelude.{◌↔◌, ◌≡◌, ◌<◌, ◌⊎◌, ◌++◌, ℕ, zero, suc, Bool, List, [], ◌∷◌}
-use Rattle.std.specs.Prelude.{IsTrue, Option, None, Some, length, reverse, codes}
+use Rattle.std.specs.Prelude.{true, IsTrue, Option, None, Some, length, reverse, codes}
 use Rattle.std.specs.List.{AllByRecursion}
 use Rattle.packets.specs.Packet.{Recorded}
 use Rattle.streams.specs.Choice.{IsAnswered, OpensAs, numbered_one}
@@ -32,6 +32,9 @@ use Rattle.bgp_import.specs.declared.refusal.Refusal.{Refusal}
 use Rattle.bgp_explain.specs.LeftOut.{JudgesWithout}
 use Rattle.bgp_explain.specs.declared.left_out.LeftOut.{LeftOut}
 use Rattle.bgp_explain.specs.Places.{shown_places}
+use Rattle.bgp_why.specs.declared.style.Style.{Style}
+use Rattle.bgp_why.specs.Style.{plain}
+use Rattle.bgp_explain.specs.Moments.{first_second}
 use Rattle.bgp_explain.specs.Records.{SaysOrNot}
 use Rattle.bgp_explain.specs.declared.report.Report.{Report}
 use Rattle.bgp_explain.specs.declared.report.Report.TheVariants.{VerdictAlone, WithReason}
@@ -168,12 +171,17 @@ module _ (config : Config) (wanted : Import) (packets : List Recorded) (segments
     abbrev pub HasSeveral : Type 0
     HasSeveral = (wanted.connection ≡ None) × (1 < length (numbered (reverse segments)))
 
+-- the records are those of a recording, and a time of the first one's day has no date
+abbrev pub made_style : List Entry → Style
+made_style entries = plain (first_second (records_of entries)) true
+
 -- What stands after the verdict on the records of these entries: nothing; or what explains it, or
 -- that memory was refused for the reason.
 abbrev pub IsMore : Report → Config → List Entry → VerdictValue → List ℕ → Type 0
 IsMore VerdictAlone config entries verdict more = more ≡ []
 IsMore WithReason config entries verdict more =
-    SaysOrNot config config.parts.session (shown_places entries) (records_of entries) verdict more
+    SaysOrNot config (made_style entries) config.parts.session (shown_places entries)
+    (records_of entries) verdict more
 
 -- And where this is found over all orders: if another order is a yes, it is about the entries of
 -- that, and else about the made ones.

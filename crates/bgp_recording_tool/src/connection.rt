@@ -4,6 +4,7 @@
 ghost use Rattle.std.specs.Prelude.{◌≡◌, [], ℕ, List, Some, length, map, reverse};
 ghost use Rattle.std.specs.Prelude.{IfNone, IfSome, MatchResult};
 ghost use Rattle.mrt.specs.Reader.{shown_of};
+ghost use Rattle.bgp_prefix.specs.Shown.{second_of};
 ghost use Rattle.std.specs.List.{AllByRecursion};
 ghost use Rattle.packets.specs.Packet.{Recorded};
 ghost use Rattle.streams.specs.Passed.{Segment};
@@ -18,10 +19,12 @@ ghost use Rattle.bgp_import.specs.Refusals.{refusal_line};
 ghost use Rattle.bgp_import.specs.Selecting.{AreTaken};
 ghost use Rattle.bgp_recording.specs.Captured as captured;
 ghost use Rattle.bgp_recording.specs.Captured.{IsNoRefresh};
+ghost use Rattle.bgp_explain.specs.Moments.{first_second};
 ghost use Rattle.bgp_explain.specs.Places.{shown_places};
 ghost use Rattle.bgp_explain.specs.Records.{AreExplained, CanBeShown, SaysOrNot};
 ghost use Rattle.bgp_explain.specs.Text.{CanBePutOf};
 ghost use Rattle.bgp_recording_tool.specs.Connections.{IsMore, IsMoreOf, IsToldAs};
+ghost use Rattle.bgp_recording_tool.specs.Connections.{made_style};
 ghost use Rattle.bgp_recording_tool.specs.Found.{IsNo, IsSought, entries_of, found_of};
 ghost use Rattle.bgp_recording_tool.specs.Judging.{Puts};
 ghost use Rattle.bgp_recording_tool.specs.Options.{IsOneFamily};
@@ -40,12 +43,12 @@ use bgp_judge::{Tracker, Verdict};
 use bgp_open::Config;
 use bgp_orders::Unexplained;
 use bgp_parts::some_show_confederations;
-use bgp_prefix::{RouteRefresh, Session};
-use bgp_reason_text::Style;
+use bgp_prefix::{RouteRefresh, Seconds, Session};
 use bgp_recording::{Entry, Recording};
 use bgp_text::Lines;
 use bgp_tool::{Status, put_verdict};
-use mrt::Sink;
+use bgp_why::Style;
+use mrt::{Record, Sink};
 use std::alloc::{AllocError, Allocator};
 
 /// Why the records of a connection aren't judged, if they aren't: its session may have a
@@ -65,6 +68,27 @@ fn refused_refresh<A: Allocator>(session: &Session, made: &Recording<'_, A>) -> 
     }
 }
 
+/// Returns the second of a record.
+fn second_of(shown: &Record<'_>) -> Seconds
+    ensures { result ≡ second_of (shown_of shown.now) }
+{
+    match *shown {
+        Record::In(second, _) => second,
+        Record::Out(second, _) => second,
+        Record::Change(second, _, _) => second,
+    }
+}
+
+/// Returns the second of the first record of these entries, 0 if there is none.
+fn first_second_of(entries: &[Entry<'_>]) -> Seconds
+    ensures { result ≡ first_second (captured.records_of entries.now) }
+{
+    match entries {
+        [] => 0,
+        [first, ..] => second_of(&first.record),
+    }
+}
+
 /// Puts what explains the verdict on the records of these entries, or that memory was refused for
 /// the reason.
 fn put_reason<A: Allocator + Copy, W: Sink>(
@@ -77,13 +101,14 @@ fn put_reason<A: Allocator + Copy, W: Sink>(
     requires explained { AreExplained config.now (captured.records_of entries.now) explained.now }
     requires can { CanBePutOf config.now.parts.session explained.now.reason }
     ensures { (more : List ℕ)
-        × SaysOrNot config.now config.now.parts.session (shown_places entries.now)
-        (captured.records_of entries.now) (verdict_value explained.now.verdict) more
+        × SaysOrNot config.now (made_style entries.now) config.now.parts.session
+        (shown_places entries.now) (captured.records_of entries.now)
+        (verdict_value explained.now.verdict) more
         × Writes lines.old lines.new more }
 {
     let (session, places) = (&config.parts.session, Places::Shown(entries));
     let details = explained.details(alloc, config);
-    let style = Style::plain();
+    let style = Style::plain(first_second_of(entries), true);
     put_explained_records(lines, config, &style, session, places, explained, &details);
 }
 

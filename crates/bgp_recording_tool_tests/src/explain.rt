@@ -62,17 +62,20 @@ fn a_failing_sink_is_told(rt: HostRuntime) {
 /// configured.
 const WRONG_HOLD: &str = "\
 no at record 2
-record 2 @100 sent open as 65001 hold 90 id 192.0.2.1 caps 1:00010001 1:00020001 65:0000fde9
-state Connect by record 1
-possible received message
-or sent open (RFC 4271 4.2), but hold 90, configured 180
-or change 2 1 (RFC 4271 8.2.2)
-or change 2 2 (as it is)
-or change 2 4 (RFC 4271 8.2.2)
+  record 2, 1970-01-01 00:01:40 UTC: 192.0.2.1 sent OPEN to 192.0.2.2, not allowed here: \
+  Hold Time 90, configured 180
+  message: open as 65001 hold 90 id 192.0.2.1 | Multiprotocol IPv4 unicast \
+  | Multiprotocol IPv6 unicast | Four-octet AS 65001
+  state: Connect since record 1, 00:01:40
+  could come here: any message received
+  or: OPEN sent [RFC 4271 4.2]; this one: Hold Time 90, configured 180
+  or: the session ends, Connect to Idle [RFC 4271 8.2.2]
+  or: the same state once more, Connect
+  or: change of state, Connect to OpenSent [RFC 4271 8.2.2]
 ";
 
 /// The same where memory is refused for the reason.
-const WITHOUT_REASON: &str = "no at record 2\nnote no memory for the reason\n";
+const WITHOUT_REASON: &str = "no at record 2\n  note: out of memory for the reason\n";
 
 /// What reading a capture takes: a buffer for the body of one record.
 const READING: usize = 65_583;

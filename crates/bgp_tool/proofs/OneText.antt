@@ -1,5 +1,5 @@
 -- Each stream has one text and one status.
-use Rattle.std.proofs.Common.{◌≡◌, ◌∙◌, ◌++◌, ℕ, List, length, refl, sym, ap, subst, inl, inr, arith}
+use Rattle.std.proofs.Common.{◌≡◌, ◌∙◌, ◌++◌, ℕ, List, [], length, refl, sym, ap, subst, inl, inr, arith}
 use Rattle.bgp_wire.specs.declared.header.HeaderFaults.{HeaderFaults}
 use Rattle.bgp_wire.specs.declared.header.Limit.{Limit}
 use Rattle.bgp_wire.specs.Header.{header_of}
@@ -8,23 +8,30 @@ use Rattle.bgp_wire.proofs.OneFaultSet.{same_fields}
 use Rattle.bgp_wire.specs.Framing.{joined}
 use Rattle.bgp_wire.proofs.Front.{faulty_not_short}
 use Rattle.bgp_wire.proofs.OneFraming.{one_framing}
-use Rattle.bgp_text.specs.Message.{Message, Say}
-use Rattle.bgp_text.proofs.OneMessage.{one_reading}
 use Rattle.bgp_text.specs.Text.{fault_line}
-use Rattle.bgp_tool.specs.Decoding.{lines_of, IsLastLine, IsDecoded}
+use Rattle.bgp_lines.specs.Form.{fault_line_in}
+use Rattle.bgp_lines.specs.Others.{named_stream_fault}
+use Rattle.bgp_lines.specs.declared.form.LineForm.{LineForm}
+use Rattle.bgp_lines.specs.declared.form.LineForm.TheVariants.{Plain, Names}
+use Rattle.bgp_tool.specs.declared.stream_options.StreamOptions.{StreamOptions}
+use Rattle.bgp_tool.specs.Decoding.{AreFrameLines, IsLastLine, IsDecoded}
+use Rattle.bgp_tool.proofs.LinesOfFrames.{one_told}
 
 -- the faults of one header print one line
-one_fault_line : (limit : Limit) (offset : ℕ) (header : List ℕ) (faults others : HeaderFaults) → AreFaults limit header faults
-    → AreFaults limit header others → fault_line offset faults ≡ fault_line offset others
-unfolding fault_line
-one_fault_line limit offset header faults others h k =
+one_fault_line : (limit : Limit) (form : LineForm) (offset : ℕ) (header : List ℕ) (faults others : HeaderFaults) → AreFaults limit header faults
+    → AreFaults limit header others → fault_line_in form offset faults header ≡ fault_line_in form offset others header
+unfolding fault_line named_stream_fault
+one_fault_line limit Plain offset header faults others h k =
+    let same = same_fields limit header faults others h k in
+    rw (same.0, same.1, same.2) refl
+one_fault_line limit (Names as2) offset header faults others h k =
     let same = same_fields limit header faults others h k in
     rw (same.0, same.1, same.2) refl
 
 -- a rest has one last line and one status
-one_last_line : (limit : Limit) (offset : ℕ) (rest line other : List ℕ) (status code : ℕ) → IsLastLine limit offset rest line status
-    → IsLastLine limit offset rest other code → (line ≡ other) × (status ≡ code)
-one_last_line limit offset rest line other status code h k = elim h [
+one_last_line : (limit : Limit) (form : LineForm) (offset : ℕ) (rest line other : List ℕ) (status code : ℕ) → IsLastLine limit form offset rest line status
+    → IsLastLine limit form offset rest other code → (line ≡ other) × (status ≡ code)
+one_last_line limit form offset rest line other status code h k = elim h [
   | inl a ↦ elim k [
     | inl b ↦ (a.1 ∙ sym b.1, a.2 ∙ sym b.2)
     | inr b ↦ elim b [
@@ -45,7 +52,7 @@ one_last_line limit offset rest line other status code h k = elim h [
       | inr c ↦ elim c [
         | inl d ↦ absurd (faulty_not_short limit rest b.0 d.1)
         | inr d ↦ (
-          b.2.2 ∙ one_fault_line limit offset (header_of rest) b.2.0 d.2.0 b.2.1 d.2.1 ∙ sym d.2.2,
+          b.2.2 ∙ one_fault_line limit form offset (header_of rest) b.2.0 d.2.0 b.2.1 d.2.1 ∙ sym d.2.2,
           b.1 ∙ sym d.1,
         )
       ]
@@ -53,18 +60,19 @@ one_last_line limit offset rest line other status code h k = elim h [
   ]
 ]
 
-pub one_text : (limit : Limit) (stream text other : List ℕ) (status code : ℕ) → IsDecoded limit stream text status → IsDecoded limit stream other code
-    → (text ≡ other) × (status ≡ code)
-one_text limit stream text other status code h k =
-    let framing = one_framing limit stream h.frames k.frames h.rest k.rest h.framing k.framing in
-    let said : Say h.frames k.messages = subst (λ (fs : List (List ℕ)). Say fs k.messages) (sym framing.0) k.said in
-    let messages = one_reading h.frames h.messages k.messages h.said said in
-    let ending : IsLastLine limit (length (joined h.frames)) h.rest k.last code =
-    subst (λ (fs : List (List ℕ)). IsLastLine limit (length (joined fs)) h.rest k.last code) (sym framing.0)
-    (subst (λ (r : List ℕ). IsLastLine limit (length (joined k.frames)) r k.last code) (sym framing.1) k.ending)
+pub one_text : (options : StreamOptions) (stream text other : List ℕ) (status code : ℕ) → IsDecoded options stream text status
+    → IsDecoded options stream other code → (text ≡ other) × (status ≡ code)
+one_text options stream text other status code h k =
+    let framing = one_framing options.limit stream h.frames k.frames h.rest k.rest h.framing k.framing in
+    let told : AreFrameLines options.form [] h.frames k.lines =
+    subst (λ (fs : List (List ℕ)). AreFrameLines options.form [] fs k.lines) (sym framing.0) k.told
     in
-    let last = one_last_line limit (length (joined h.frames)) h.rest h.last k.last status code h.ending ending in (
-      h.text ∙ ap (λ (ms : List Message). lines_of ms ++ h.last) messages ∙ ap (λ (l : List ℕ). lines_of k.messages ++ l) last.0
-          ∙ sym k.text,
+    let lines = one_told options.form [] h.frames h.lines k.lines h.told told in
+    let ending : IsLastLine options.limit options.form (length (joined h.frames)) h.rest k.last code =
+    subst (λ (fs : List (List ℕ)). IsLastLine options.limit options.form (length (joined fs)) h.rest k.last code) (sym framing.0)
+    (subst (λ (r : List ℕ). IsLastLine options.limit options.form (length (joined k.frames)) r k.last code) (sym framing.1) k.ending)
+    in
+    let last = one_last_line options.limit options.form (length (joined h.frames)) h.rest h.last k.last status code h.ending ending in (
+      h.text ∙ ap (λ (t : List ℕ). t ++ h.last) lines ∙ ap (λ (l : List ℕ). k.lines ++ l) last.0 ∙ sym k.text,
       last.1,
     )

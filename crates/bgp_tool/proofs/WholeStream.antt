@@ -5,6 +5,8 @@ use Rattle.bgp_wire.specs.declared.header.Limit.{Limit}
 use Rattle.bgp_wire.specs.Header.{header_of, IsSound}
 use Rattle.bgp_wire.specs.Verdict.{AreFaults}
 use Rattle.bgp_wire.specs.Framing.{IsFaulty, joined}
+use Rattle.bgp_lines.specs.Form.{fault_line_in}
+use Rattle.bgp_tool.specs.declared.stream_options.StreamOptions.{StreamOptions}
 use Rattle.bgp_tool.specs.Decoding.{IsDecoded}
 
 -- more octets behind a header change nothing of it
@@ -17,12 +19,12 @@ still_faulty limit rest left faulty = (
   subst (λ (header : List ℕ). ¬ IsSound limit header) (sym (same_header rest left faulty.0)) faulty.1,
 )
 
-pub whole_stream : {limit : Limit} (stream given left written : List ℕ) (status : ℕ) → stream ≡ given ++ left
-    → (((status ≡ 0) ⊎ (status ≡ 2)) → left ≡ []) → IsDecoded limit given written status → IsDecoded limit stream written status
-whole_stream {limit} stream given left written status is ended decoded =
-    let all : left ≡ [] → IsDecoded limit stream written status =
+pub whole_stream : {options : StreamOptions} (stream given left written : List ℕ) (status : ℕ) → stream ≡ given ++ left
+    → (((status ≡ 0) ⊎ (status ≡ 2)) → left ≡ []) → IsDecoded options given written status → IsDecoded options stream written status
+whole_stream {options} stream given left written status is ended decoded =
+    let all : left ≡ [] → IsDecoded options stream written status =
     λ nothing.
-    subst (λ (s : List ℕ). IsDecoded limit s written status)
+    subst (λ (s : List ℕ). IsDecoded options s written status)
     (sym (is ∙ ap (λ (l : List ℕ). given ++ l) nothing ∙ append-nil given)) decoded
     in
     elim decoded.ending [
@@ -37,19 +39,19 @@ whole_stream {limit} stream given left written status is ended decoded =
                 is ∙ ap (λ (s : List ℕ). s ++ left) decoded.framing.whole
                 ∙ append_assoc (joined decoded.frames) decoded.rest left;
             each = decoded.framing.each;
-            last = inr (still_faulty limit decoded.rest left faulty.0);
+            last = inr (still_faulty options.limit decoded.rest left faulty.0);
           };
-          messages = decoded.messages;
-          said = decoded.said;
+          lines = decoded.lines;
+          told = decoded.told;
           last = decoded.last;
           ending = inr (inr (
-            still_faulty limit decoded.rest left faulty.0,
+            still_faulty options.limit decoded.rest left faulty.0,
             faulty.1,
             (
               faulty.2.0,
-              subst (λ (header : List ℕ). AreFaults limit header faulty.2.0)
+              subst (λ (header : List ℕ). AreFaults options.limit header faulty.2.0)
                   (sym (same_header decoded.rest left faulty.0.0)) faulty.2.1,
-              faulty.2.2,
+              faulty.2.2 ∙ ap (fault_line_in options.form (length (joined decoded.frames)) faulty.2.0) (sym (same_header decoded.rest left faulty.0.0)),
             ),
           ));
           text = decoded.text;

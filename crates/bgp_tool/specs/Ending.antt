@@ -9,9 +9,13 @@ use Rattle.bgp_tool.specs.declared.decoding.End.{End}
 use Rattle.bgp_tool.specs.declared.decoding.End.TheVariants as ends
 use Rattle.bgp_text.specs.declared.lines.Lines.{Lines}
 use Rattle.bgp_text.specs.Lines.{Writes}
-use Rattle.bgp_text.specs.Message.{Message, Say}
-use Rattle.bgp_text.specs.Text.{rest_line}
-use Rattle.bgp_tool.specs.Decoding.{lines_of, IsLastLine, IsDecoded, IsSoFar, IsBeginning}
+use Rattle.bgp_lines.specs.Form.{rest_line_in}
+use Rattle.bgp_lines.specs.Telling.{Knows}
+use Rattle.bgp_lines.specs.declared.form.LineForm.{LineForm}
+use Rattle.bgp_lines.specs.declared.teller.Teller.{Teller}
+use Rattle.bgp_tool.specs.declared.stream_options.StreamOptions.{StreamOptions}
+use Rattle.bgp_tool.specs.Decoding.{AreFrameLines, IsLastLine, IsDecoded, IsSoFar, IsBeginning}
+use Rattle.bgp_tool.specs.Decoding.{stream_before}
 
 -- the exit status
 abbrev pub status_of : End → ℕ
@@ -22,24 +26,22 @@ status_of ends.OutOfMemory = 4
 status_of ends.SourceFailed = 5
 status_of ends.SinkFailed = 5
 
--- the text is the lines of the frames that stand before the rest
-pub record AreLines (limit : Limit) (octets rest lines : List ℕ) : Type 0 where
-  pub frames : List (List ℕ)
+-- the text is the lines of these frames, which stand before the rest, where others came before
+pub record AreLines (limit : Limit) (form : LineForm) (before frames : List (List ℕ))
+    (octets rest lines : List ℕ) : Type 0 where
   pub split : octets ≡ joined frames ++ rest
   pub each : All (IsFrame limit) frames
-  pub messages : List Message
-  pub said : Say frames messages
-  pub text : lines ≡ lines_of messages
+  pub told : AreFrameLines form before frames lines
 
 -- The text that was written of what was given: all of it where the stream ended or a header with
 -- faults came, the lines of the frames so far where the source failed, and else a beginning.
-abbrev pub HasText : Limit → List ℕ → List ℕ → End → Type 0
-HasText limit given written ends.BetweenMessages = IsDecoded limit given written 0
-HasText limit given written ends.InsideMessage = IsDecoded limit given written 2
-HasText limit given written ends.AtFault = IsDecoded limit given written 3
-HasText limit given written ends.SourceFailed = IsSoFar limit given written
-HasText limit given written ends.OutOfMemory = IsBeginning limit given written
-HasText limit given written ends.SinkFailed = IsBeginning limit given written
+abbrev pub HasText : StreamOptions → List ℕ → List ℕ → End → Type 0
+HasText options given written ends.BetweenMessages = IsDecoded options given written 0
+HasText options given written ends.InsideMessage = IsDecoded options given written 2
+HasText options given written ends.AtFault = IsDecoded options given written 3
+HasText options given written ends.SourceFailed = IsSoFar options given written
+HasText options given written ends.OutOfMemory = IsBeginning options given written
+HasText options given written ends.SinkFailed = IsBeginning options given written
 
 -- the source's count of failures
 abbrev pub source_failures : ℕ → End → ℕ
@@ -69,14 +71,14 @@ IsAtEnd ends.SourceFailed = ⊥
 IsAtEnd ends.SinkFailed = ⊥
 
 -- what was given and what was written when a decoding ended, by what the source gives
-pub record Reaches {R W : Type 0} {sink : sinks.Ghosts W} (limit : Limit)
+pub record Reaches {R W : Type 0} {sink : sinks.Ghosts W} (options : StreamOptions)
     (gives : R → R → List ℕ → Type 0)
     (source source' : R) (lines lines' : Lines W sink) (end : End) : Type 0 where
   pub given : List ℕ
   pub text : List ℕ
   pub gave : gives source source' given
   pub wrote : Writes lines lines' text
-  pub has_text : HasText limit given text end
+  pub has_text : HasText options given text end
   -- nothing is held back, and a failure of the sink is told
   pub handed_over : lines'.held.items ≡ []
   pub told : lines'.outlet.has_failed ≡ has_sink_failed end
@@ -89,22 +91,28 @@ module _ {W : Type 0} {sink : sinks.Ghosts W} (lines lines' : Lines W sink) wher
     pub told : (IsFalse lines'.outlet.has_failed × (end' ≡ end))
         ⊎ (IsTrue lines'.outlet.has_failed × (end' ≡ ends.SinkFailed))
 
-  -- The whole frames that a splitter held were written, up to what is no frame; and the line of a
-  -- header with faults, if one stands there. So many octets were given when what it held ends.
-  abbrev pub PutsFrames : ℕ → Held → Held → Bool → Type 0
-  PutsFrames given held left false =
-      (text : List ℕ) × AreLines held.limit held.octets left.octets text
-      × IsShort held.limit left.octets
-      × (left ≡ record held { octets = left.octets }) × Writes lines lines' text
-  PutsFrames given held left true =
-      (rest text last : List ℕ) × AreLines held.limit held.octets rest text
-      × IsLastLine held.limit (given - length rest) rest last 3 × Writes lines lines' (text ++ last)
+  -- The whole frames that a splitter held were written, behind those that came before, up to what
+  -- is no frame; and the line of a header with faults, if one stands there. So many octets were
+  -- given when what it held ends.
+  abbrev pub PutsFrames : ℕ → List (List ℕ) → Held → Held → Teller → Teller → Bool → Type 0
+  PutsFrames given before held left old new false =
+      (frames : List (List ℕ)) × (text : List ℕ)
+      × AreLines held.limit old.form before frames held.octets left.octets text
+      × IsShort held.limit left.octets × (left ≡ record held { octets = left.octets })
+      × (new.form ≡ old.form) × Knows new (stream_before (before ++ frames))
+      × Writes lines lines' text
+  PutsFrames given before held left old new true =
+      (frames : List (List ℕ)) × (rest text last : List ℕ)
+      × AreLines held.limit old.form before frames held.octets rest text
+      × IsLastLine held.limit old.form (given - length rest) rest last 3
+      × Writes lines lines' (text ++ last)
 
-  -- so many octets behind the last frame, at the end of the stream, were told
-  abbrev pub PutsRest : ℕ → End → Type 0
-  PutsRest count ends.BetweenMessages = (count ≡ 0) × Writes lines lines' []
-  PutsRest count ends.InsideMessage = (count ≢ 0) × Writes lines lines' (rest_line count)
-  PutsRest count ends.AtFault = ⊥
-  PutsRest count ends.OutOfMemory = ⊥
-  PutsRest count ends.SourceFailed = ⊥
-  PutsRest count ends.SinkFailed = ⊥
+  -- the octets behind the last frame, at the end of the stream, were told
+  abbrev pub PutsRest : LineForm → List ℕ → End → Type 0
+  PutsRest form rest ends.BetweenMessages = (rest ≡ []) × Writes lines lines' []
+  PutsRest form rest ends.InsideMessage =
+      (rest ≢ []) × Writes lines lines' (rest_line_in form rest)
+  PutsRest form rest ends.AtFault = ⊥
+  PutsRest form rest ends.OutOfMemory = ⊥
+  PutsRest form rest ends.SourceFailed = ⊥
+  PutsRest form rest ends.SinkFailed = ⊥

@@ -6,12 +6,12 @@ use Rattle.std.specs.Borrow.{Bor}
 use Rattle.std.specs.Io.KnownBytes.{Consumes, Appends, IsAtEnd}
 use Rattle.std.specs.declared.io.ErrorKind.{ErrorKind}
 use Rattle.std.specs.declared.io.ErrorKind.TheVariants as errors
-use Rattle.bgp_wire.specs.declared.header.Limit.{Limit}
 use Rattle.mrt.specs.FromWrite.{WriterState}
 use Rattle.bgp_tool.specs.declared.note.Note.{Note}
 use Rattle.bgp_tool.specs.declared.note.Note.TheVariants.{Unopened, Unread, Unwritten}
 use Rattle.bgp_tool.specs.declared.note.Note.TheVariants.{OutOfMemory, NoStream}
 use Rattle.bgp_tool.specs.declared.opened.Outcome.{Outcome}
+use Rattle.bgp_tool.specs.declared.stream_options.StreamOptions.{StreamOptions}
 use Rattle.bgp_tool.specs.Decoding.{IsDecoded, IsSoFar, IsBeginning}
 use Rattle.bgp_tool.specs.Front.{no_stream, kept}
 
@@ -29,7 +29,7 @@ TellsReader file octet note =
 
 -- How a decoding ended, by its status, and what is told of it: of this file, of which these octets
 -- were given, and this text written to a writer.
-pub record Tells {W : Type 0} (limit : Limit) (file : Bor (List ℕ)) (given written : List ℕ)
+pub record Tells {W : Type 0} (options : StreamOptions) (file : Bor (List ℕ)) (given written : List ℕ)
     (old new : WriterState W) (outcome : Outcome) : Type 0 where
   -- a whole stream isn't told of, nor one that ends inside a message
   pub quiet : ((outcome.status ≡ 0) ⊎ (outcome.status ≡ 2)) → outcome.note ≡ None
@@ -39,14 +39,14 @@ pub record Tells {W : Type 0} (limit : Limit) (file : Bor (List ℕ)) (given wri
   pub memory : outcome.status ≡ 4 → outcome.note ≡ Some (OutOfMemory file (length given))
   -- the reader failed, and the lines of the frames that it gave are written; or the writer did
   pub device : outcome.status ≡ 5 →
-      ((new.failures ≡ old.failures) × IsSoFar limit given written
+      ((new.failures ≡ old.failures) × IsSoFar options given written
       × TellsReader file (length given) outcome.note)
       ⊎ ((new.failures ≡ old.failures + 1) × TellsWriter new outcome.note)
   -- else neither failed
   pub calm : outcome.status ≢ 5 → new.failures ≡ old.failures
 
 -- From one state of a writer to another a reader's octets were decoded.
-pub record DecodesReader {R W : Type 0} (limit : Limit)
+pub record DecodesReader {R W : Type 0} (options : StreamOptions)
     (remaining : R → Option (List ℕ)) (contents : W → Option (List ℕ)) (file : Bor (List ℕ))
     (reader : R) (old new : WriterState W) (outcome : Outcome) : Type 0 where
   pub given : List ℕ
@@ -55,12 +55,12 @@ pub record DecodesReader {R W : Type 0} (limit : Limit)
   pub consumed : Consumes (remaining reader) left given
   pub appended : Appends (contents old.writer) (contents new.writer) written
   -- in any case a beginning of the text of what was given
-  pub begun : IsBeginning limit given written
+  pub begun : IsBeginning options given written
   -- where the status tells of the stream, the whole text
-  pub whole : outcome.status < 4 → IsDecoded limit given written outcome.status
+  pub whole : outcome.status < 4 → IsDecoded options given written outcome.status
   -- where it ended, the reader has nothing left
   pub ended : ((outcome.status ≡ 0) ⊎ (outcome.status ≡ 2)) → IsAtEnd left
-  pub told : Tells limit file given written old new outcome
+  pub told : Tells options file given written old new outcome
   pub no_capture : outcome.skipped ≡ None
 
 -- A file couldn't be opened: a device failed, or memory was refused.

@@ -1,13 +1,18 @@
 //! `bgp decode` of a raw stream: the octets of one direction of a connection (RFC 4271, 4).
 
-ghost use Rattle.std.specs.Prelude.{◌≡◌, ◌<◌, ◌≤◌, ◌^◌, ◌+◌, ◌-◌, ◌⊎◌, IsTrue, length, false};
-ghost use Rattle.bgp_tool.specs.Decoding.{CountsFailures, Decodes};
+ghost use Rattle.std.specs.Prelude.{◌≡◌, ◌<◌, ◌≤◌, ◌^◌, ◌+◌, ◌-◌, ◌⊎◌, IsTrue, List, ℕ, length};
+ghost use Rattle.std.specs.Prelude.{false};
+ghost use Rattle.bgp_lines.specs.Telling.{Knows};
+ghost use Rattle.bgp_tool.specs.Decoding.{CountsFailures, Decodes, stream_before};
 ghost use Rattle.bgp_tool.specs.Ending.{PutsFrames, PutsRest, HandsOver};
 ghost use Rattle.bgp_tool.specs.Ending.{Reaches, IsAtEnd, source_failures};
 
 use crate::status::Status;
-use bgp_text::{Lines, put_fault, put_message};
-use bgp_wire::{Frames, Limit, Next};
+use crate::stream_options::StreamOptions;
+use bgp_lines::Teller;
+use bgp_text::Lines;
+use bgp_values::Direction;
+use bgp_wire::{Frames, Next};
 use mrt::{Sink, Source};
 use std::alloc::Allocator;
 
@@ -55,36 +60,44 @@ fn offset_of_held(given: u64, held: usize) -> u64
 
 /// Writes the line of each whole frame that is held, and of a header with faults behind them;
 /// answers whether there is one. So many octets were given in all.
+///
+/// A stream shows one direction, and not which: all its messages are told as received ones.
 fn put_frames<W: Sink, A: Allocator + Copy>(
     frames: &mut Frames<A>,
+    teller: &mut Teller,
     lines: &mut Lines<'_, W>,
     given: u64,
 ) -> bool
     requires open { frames.old.is_closed ≡ false }
     requires given { length frames.old.octets ≤ given }
-    ensures { PutsFrames lines.old lines.new given frames.old frames.new result }
+    ensures { (before : List (List ℕ)) → Knows teller.old (stream_before before)
+        → PutsFrames lines.old lines.new given before frames.old frames.new teller.old teller.new
+        result }
 {
     loop {
         match frames.next() {
-            Next::Frame(kind, frame) => put_message(lines, kind, frame),
+            Next::Frame(kind, frame) => {
+                teller.put_frame(lines, Direction::Received, kind, frame);
+            }
             Next::More => return false,
-            Next::Fault(faults, _) => {
+            Next::Fault(faults, header) => {
+                let header = *header;
                 let offset = offset_of_held(given, frames.len());
-                put_fault(lines, offset, faults);
+                teller.put_fault(lines, offset, faults, &header);
                 return true;
             }
         }
     }
 }
 
-/// Tells how many octets stand behind the last frame where the stream ends, if any do.
-fn put_rest<W: Sink>(lines: &mut Lines<'_, W>, count: usize) -> End
-    ensures { PutsRest lines.old lines.new count result }
+/// Tells what octets stand behind the last frame where the stream ends, if any do.
+fn put_rest<W: Sink>(teller: &Teller, lines: &mut Lines<'_, W>, octets: &[u8]) -> End
+    ensures { PutsRest lines.old lines.new teller.now.form octets.now result }
 {
-    if count == 0 {
+    if octets.is_empty() {
         return End::BetweenMessages;
     }
-    bgp_text::put_rest(lines, count);
+    teller.put_rest(lines, octets);
     End::InsideMessage
 }
 
@@ -103,17 +116,18 @@ const BLOCK: usize = 1 << 16;
 
 /// Decodes a stream to its end, to its first fault, or until something is refused.
 fn decode<R: Source, W: Sink, A: Allocator + Copy>(
-    limit: Limit,
+    options: StreamOptions,
     alloc: A,
     source: &mut R,
     lines: &mut Lines<'_, W>,
 ) -> End
     requires { R.failures source.old < u64.MAX }
-    ensures reaches { Reaches limit R.gives source.old source.new lines.old lines.new result }
+    ensures reaches { Reaches options R.gives source.old source.new lines.old lines.new result }
     ensures source_count { R.failures source.new ≡ source_failures (R.failures source.old) result }
     ensures ended { IsAtEnd result → IsTrue (R.has_ended source.new) }
 {
-    let mut frames = Frames::new(alloc, limit);
+    let mut frames = Frames::new(alloc, options.limit);
+    let mut teller = Teller::new(options.form);
     let mut block = [0; BLOCK];
     let mut given = 0u64;
     'reads: loop {
@@ -126,40 +140,45 @@ fn decode<R: Source, W: Sink, A: Allocator + Copy>(
             Err(_) => return End::SourceFailed,
         };
         if count == 0 {
-            let end = put_rest(lines, frames.len());
+            let end = put_rest(&teller, lines, frames.held());
             return hand_over(lines, end);
         }
         match frames.feed(&block[..count]) {
             Ok(()) => given += count as u64,
             Err(_) => return End::OutOfMemory,
         }
-        if put_frames(&mut frames, lines, given) {
+        if put_frames(&mut frames, &mut teller, lines, given) {
             return hand_over(lines, End::AtFault);
         }
     }
 }
 
-/// Decodes a raw stream, the octets of one direction of a BGP connection: writes one line a message
-/// (bgp_text's `specs/Text.antt`), and a last one where the stream ends inside a message or stops
-/// being BGP. A message may be as long as the limit says (RFC 4271, 4.1; RFC 8654, 4).
+/// Decodes a raw stream, the octets of one direction of a BGP connection: writes one line a
+/// message, and a last one where the stream ends inside a message or stops being BGP. A message may
+/// be as long as the limit says (RFC 4271, 4.1; RFC 8654, 4).
+///
+/// In the plain form the lines are those of bgp_text's `specs/Text.antt`. In words (bgp_lines'
+/// `specs/Form.antt`) AS numbers have two octets if that is asked for, or the last OPEN before offers
+/// none of four; path identifiers are taken for prefixes, since one direction doesn't show what both
+/// OPENs offer.
 ///
 /// Answers the exit status:
 ///
 /// * 0: all octets were whole messages.
-/// * 2: the stream ends inside a message; the last line is `rest N`.
+/// * 2: the stream ends inside a message; the last line is `rest N`, in words with the octets.
 /// * 3: a header has faults; the last line is `fault at OFFSET 1/S ..` (RFC 4271, 6.1).
 /// * 4: a growth was refused. No device failed, and a beginning of the text is written.
 /// * 5: a device failed. Where it is the source, the lines of the frames that it gave are written,
 ///   and else a beginning of the text.
 pub fn decode_raw<R: Source, W: Sink, A: Allocator + Copy>(
-    limit: Limit,
+    options: StreamOptions,
     alloc: A,
     source: &mut R,
     sink: &mut W,
 ) -> u8
     requires source { R.failures source.old < 2 ^ 63 }
     requires sink { W.failures sink.old < 2 ^ 63 }
-    ensures text { Decodes limit R.gives W.takes source.old source.new sink.old sink.new
+    ensures text { Decodes options R.gives W.takes source.old source.new sink.old sink.new
         (R.failures source.new ≡ R.failures source.old + 1) result }
     ensures failures { CountsFailures (R.failures source.old) (R.failures source.new)
         (W.failures sink.old) (W.failures sink.new) result }
@@ -167,7 +186,7 @@ pub fn decode_raw<R: Source, W: Sink, A: Allocator + Copy>(
     ensures statuses { result ≤ 5 }
 {
     let mut lines = Lines::new(sink);
-    let end = decode(limit, alloc, source, &mut lines);
+    let end = decode(options, alloc, source, &mut lines);
     // No effect: it ends the loan of the sink.
     lines.into_sink();
     end.status().code()

@@ -7,9 +7,9 @@ ghost use Rattle.bgp_tool.specs.Judging.{JudgesCapture, HasOneVerdict, NeverNone
 
 use crate::decoding::decode_raw;
 use crate::judging::write_answer;
+use crate::stream_options::StreamOptions;
 use bgp_judge::{Tracker, judge, records_have_just_one_verdict};
 use bgp_open::Config;
-use bgp_wire::Limit;
 use mrt::{MemSink, MemSource, Sink, Source, each_capture_has_one_reading};
 use std::alloc::Allocator;
 
@@ -59,7 +59,7 @@ pub fn each_capture_has_one_verdict()
     records_have_just_one_verdict();
 }
 
-/// The text of a stream of octets in memory, whose messages may be so long, and the exit status.
+/// The text of a stream of octets in memory, and the exit status.
 ///
 /// Where the status is 0, 2 or 3, the text is exactly the lines of the stream's one framing, with
 /// the last line that tells how it ends, and the status says which end it is
@@ -67,16 +67,16 @@ pub fn each_capture_has_one_verdict()
 /// splitter (4) or to the text (5), and the text is a beginning of that of the octets that were
 /// read.
 pub fn text_and_status<A: Allocator + Copy>(
-    limit: Limit,
+    options: StreamOptions,
     alloc: A,
     stream: Vec<u8, A>,
 ) -> (Vec<u8, A>, u8)
-    ensures text { result.1 < 4 → IsDecoded limit stream.items result.0.items result.1 }
-    ensures begun { IsBegun limit stream.items result.0.items }
+    ensures text { result.1 < 4 → IsDecoded options stream.items result.0.items result.1 }
+    ensures begun { IsBegun options stream.items result.0.items }
     ensures statuses { result.1 ≤ 5 }
 {
     let mut source = MemSource::new(stream);
     let mut sink = MemSink::new(alloc);
-    let status = decode_raw(limit, alloc, &mut source, &mut sink);
+    let status = decode_raw(options, alloc, &mut source, &mut sink);
     (sink.into_octets(), status)
 }

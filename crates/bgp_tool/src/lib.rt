@@ -1,10 +1,11 @@
 //! The commands of the program `bgp`, each as one function over sources and sinks.
 //!
-//! What a command prints is stated in bgp_text's specs, but for a verdict's text, which is stated
-//! in `specs/VerdictText.antt`; what it answers is an exit status:
+//! What a command prints is stated in the specs of bgp_text and bgp_lines, but for a verdict's text,
+//! which is stated in `specs/VerdictText.antt`; what it answers is an exit status:
 //!
 //! ```text
-//! let status = decode_raw(Limit::Plain, alloc, &mut source, &mut sink);
+//! let options = StreamOptions { limit: Limit::Plain, form: LineForm::Plain };
+//! let status = decode_raw(options, alloc, &mut source, &mut sink);
 //! ```
 #![tactic(auto)]
 
@@ -28,6 +29,7 @@ mod refusal_note;
 mod seen;
 mod shown;
 mod status;
+mod stream_options;
 mod verdicts;
 
 pub use captures::{decode_capture, hand_over};
@@ -46,4 +48,5 @@ pub use ready::Ready;
 pub use refreshes::passed_over;
 pub use seen::Seen;
 pub use status::Status;
+pub use stream_options::StreamOptions;
 pub use verdicts::{put_end, put_routes, put_verdict};

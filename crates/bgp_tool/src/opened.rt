@@ -12,7 +12,7 @@ use crate::decoding::decode_raw;
 use crate::front::{WithFront, no_stream};
 use crate::note::Note;
 use crate::status::Status;
-use bgp_wire::Limit;
+use crate::stream_options::StreamOptions;
 use mrt::{FromRead, FromWrite, SkippedRecords, Source};
 use std::alloc::Allocator;
 use std::io;
@@ -37,21 +37,21 @@ pub struct Outcome<'a> {
 /// A file that is refused and whose front is that of something else than a raw stream is told as
 /// that. A closed pipe is status 5 and not told.
 pub fn decode_opened<'a, R: Read + Drop, W: Write, A: Allocator + Copy>(
-    limit: Limit,
+    options: StreamOptions,
     alloc: A,
     file: &'a str,
     opened: io::Result<R>,
     sink: &mut FromWrite<W>,
 ) -> Outcome<'a>
     requires { (writer_state sink.old).failures < 2 ^ 63 }
-    ensures decoded { IfOk opened (λ reader. DecodesReader limit R.remaining W.contents file.entry
+    ensures decoded { IfOk opened (λ reader. DecodesReader options R.remaining W.contents file.entry
         reader (writer_state sink.old) (writer_state sink.new) result) }
     ensures unopened { IfErr opened (λ error. IsUnopened file.entry (error_kind error) result
         × (writer_state sink.new ≡ writer_state sink.old)) }
     ensures statuses { result.status ≤ 5 }
 {
     match opened {
-        Ok(reader) => decode_reader(limit, alloc, file, reader, sink),
+        Ok(reader) => decode_reader(options, alloc, file, reader, sink),
         Err(error) => unopened(file, error.kind()),
     }
 }
@@ -77,19 +77,19 @@ pub fn unopened<'a>(file: &'a str, error: ErrorKind) -> Outcome<'a>
 
 /// Decodes what a reader gives.
 fn decode_reader<'a, R: Read + Drop, W: Write, A: Allocator + Copy>(
-    limit: Limit,
+    options: StreamOptions,
     alloc: A,
     file: &'a str,
     reader: R,
     sink: &mut FromWrite<W>,
 ) -> Outcome<'a>
     requires { (writer_state sink.old).failures < 2 ^ 63 }
-    ensures decoded { DecodesReader limit R.remaining W.contents file.entry reader
+    ensures decoded { DecodesReader options R.remaining W.contents file.entry reader
         (writer_state sink.old) (writer_state sink.new) result }
     ensures statuses { result.status ≤ 5 }
 {
     let mut source = WithFront::new(FromRead::new(reader));
-    let status = decode_raw(limit, alloc, &mut source, sink);
+    let status = decode_raw(options, alloc, &mut source, sink);
     let note = note_of(status, file, &source, sink);
     Outcome {
         status,

@@ -9,6 +9,7 @@ mod judging;
 mod opened;
 mod words;
 
+use bgp_lines::LineForm;
 use bgp_tool::*;
 use bgp_wire::Limit;
 use bgp_wire::vectors::{
@@ -21,6 +22,12 @@ use std::num::NonZeroUsize;
 
 /// The front of a message: part of its marker.
 const FIVE_OCTETS: [u8; 5] = [255; 5];
+
+/// Streams of messages of 4096 octets at the most, without words.
+static PLAIN: StreamOptions = StreamOptions {
+    limit: Limit::Plain,
+    form: LineForm::Plain,
+};
 
 /// A session's opening and end, and the front of a message that never came whole.
 static SESSION: [&[u8]; 4] = [&OPEN_B, &ADMINISTRATIVE_SHUTDOWN, &KEEPALIVE, &FIVE_OCTETS];
@@ -56,7 +63,7 @@ fn decoded<A: Allocator + Copy>(
 ) -> (Vec<u8>, u8) {
     let mut source = MemSource::new(octets).in_pieces_of(most);
     let mut sink = MemSink::new(alloc);
-    let answer = decode_raw(Limit::Plain, memory, &mut source, &mut sink);
+    let answer = decode_raw(PLAIN, memory, &mut source, &mut sink);
     (sink.into_octets(), answer)
 }
 
@@ -67,7 +74,7 @@ fn is_told_in_short_calls(alloc: Global) -> bool {
     };
     let mut source = MemSource::new(octets).upset_at(0, SourceUpset::Short(NonZeroUsize::MIN));
     let mut sink = MemSink::new(alloc).upset_at(1, SinkUpset::Short(NonZeroUsize::MIN));
-    let answer = decode_raw(Limit::Plain, alloc, &mut source, &mut sink);
+    let answer = decode_raw(PLAIN, alloc, &mut source, &mut sink);
     same(sink.octets(), answer, SESSION_TEXT.as_bytes(), 2)
 }
 
@@ -136,7 +143,7 @@ fn a_refused_growth_leaves_a_beginning_of_the_text(rt: HostRuntime) {
 /// The status of a message in memory, where there is room for it.
 fn status_on(heap: &LocalHeap, message: &[u8]) -> Option<u8> {
     let stream = Vec::from_slice(heap, message).ok()?;
-    let (_, answer) = text_and_status(Limit::Plain, heap, stream);
+    let (_, answer) = text_and_status(PLAIN, heap, stream);
     Some(answer)
 }
 

@@ -4,7 +4,7 @@ use Rattle.bgp_wire.specs.declared.header.HeaderFaults.{HeaderFaults}
 use Rattle.bgp_wire.specs.declared.header.Limit.{Limit}
 use Rattle.bgp_wire.specs.Framing.{IsFaulty, IsFrame}
 use Rattle.bgp_wire.specs.Header.{IsSound, header_of, type_of}
-use Rattle.bgp_wire.specs.Verdict.{AreFaults}
+use Rattle.bgp_wire.specs.Verdict.{AreEachFault}
 use Rattle.bgp_open.specs.Notification.{IsNotification}
 use Rattle.bgp_open.specs.declared.route_form.RouteForm.{RouteForm}
 use Rattle.bgp_text.specs.Message as said
@@ -52,7 +52,7 @@ whole_named form limit octets name sound (inr faulty) named = absurd (faulty.1 s
 
 -- a faulty header is named by its faults
 pub faulty_named : (form : RouteForm) (limit : Limit) (octets : List ℕ) (faults : HeaderFaults) → (¬ IsSound limit (header_of octets))
-    → AreFaults limit (header_of octets) faults → IsFrame limit octets ⊎ IsFaulty limit octets
+    → AreEachFault limit (header_of octets) faults → IsFrame limit octets ⊎ IsFaulty limit octets
     → IsNamed form limit octets (names.FaultyHeader faults)
 faulty_named form limit octets faults none are (inl frame) = absurd (none frame.sound)
 faulty_named form limit octets faults none are (inr faulty) = inr (faulty, (faults, are, refl))

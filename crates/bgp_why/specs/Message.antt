@@ -5,7 +5,7 @@ use Rattle.bgp_wire.specs.declared.header.HeaderFaults.{HeaderFaults}
 use Rattle.bgp_wire.specs.declared.header.Limit.{Limit}
 use Rattle.bgp_wire.specs.Framing.{IsFrame, IsFaulty}
 use Rattle.bgp_wire.specs.Header.{header_of}
-use Rattle.bgp_wire.specs.Verdict.{AreFaults}
+use Rattle.bgp_wire.specs.Verdict.{AreEachFault}
 use Rattle.bgp_open.specs.declared.route_form.RouteForm.{RouteForm}
 use Rattle.bgp_text.specs.Message as said
 use Rattle.bgp_why_parts.specs.Codes.{full_code_text}
@@ -29,7 +29,7 @@ IsNamed form limit octets name =
     (IsFrame limit octets
     × ((message : said.Message) × said.Says form octets message × (name ≡ name_of message)))
     ⊎ (IsFaulty limit octets
-    × ((faults : HeaderFaults) × AreFaults limit (header_of octets) faults
+    × ((faults : HeaderFaults) × AreEachFault limit (header_of octets) faults
     × (name ≡ names.FaultyHeader faults)))
 
 -- ---- the text

@@ -100,7 +100,7 @@ module _ (words : List Text) (parts : ConfigParts) (file : Text) (line : IsJudge
       (plain line.local line.no_flags.3) (plain line.peer line.no_flags.4) (plain file line.no_flags.5)
 
   of_judging : (command : Command) → NamesBy (codes "judge") rows command → IsJudgeOf words command
-  of_judging (Decode extended f) is = two_names (codes "judge") (codes "decode") (λ e. omega (arith, e)) is.0
+  of_judging (Decode form extended f) is = two_names (codes "judge") (codes "decode") (λ e. omega (arith, e)) is.0
   of_judging (Capture session recording f) is = two_names (codes "judge") (codes "decode") (λ e. omega (arith, e)) is.0
   of_judging (Import session recording f out) is = two_names (codes "judge") (codes "import") (λ e. omega (arith, e)) is.0
   of_judging (Listing port f) is = two_names (codes "judge") (codes "list") (λ e. omega (arith, e)) is.0

@@ -1,9 +1,9 @@
 -- The command that a parse met, by its name and its values.
-use Rattle.std.proofs.Common.{◌≡◌, ◌∙◌, ℕ, ◌<◌, ◌^◌, Bool, List, arith, Option, Some, None, option_map, sym, ap, subst, true, false, codes}
+use Rattle.std.proofs.Common.{◌≡◌, refl, ◌∙◌, ℕ, ◌<◌, ◌^◌, Bool, List, arith, Option, Some, None, option_map, sym, ap, subst, true, false, codes}
 use Rattle.std.specs.Prelude.{IsSomeAnd, slice_get, unwrap_or}
 use Rattle.std.proofs.lemmas.Option.{none-some, same_Some}
 use Rattle.clap.specs.Words.{Row, Text, first_of}
-use Rattle.bgp_words.specs.Decode.{IsCapture, IsStream, IsDecodeOf}
+use Rattle.bgp_words.specs.Decode.{IsCapture, IsForm, IsStream, IsDecodeOf}
 use Rattle.bgp_words.specs.Judge.{IsJudge}
 use Rattle.bgp_words.specs.Values.{IsTurnsText}
 use Rattle.bgp_words.specs.Import.{CanImport, IsChecking, IsImport, IsListing}
@@ -11,6 +11,8 @@ use Rattle.bgp_words.specs.Speak.{CanSpeak, IsSpeak}
 use Rattle.bgp_import.specs.declared.options.RecordingOptions.{RecordingOptions}
 use Rattle.bgp_talk.specs.declared.options.Speaking.{Speaking}
 use Rattle.bgp_prefix.specs.declared.session.Session.{Session}
+use Rattle.bgp_lines.specs.declared.form.LineForm.{LineForm}
+use Rattle.bgp_lines.specs.declared.form.LineForm.TheVariants.{Plain, Names as InWords}
 use Rattle.bgp_open.specs.declared.config.Config.{Config}
 use Rattle.bgp_words.specs.Spelled.{Names, NamesBy, NamesDecode}
 use Rattle.bgp_words.specs.declared.words.Command.{Command}
@@ -23,15 +25,21 @@ first name = unwrap_or (slice_get name 0) 0
 pub two_names : (a b : Text) → (first a ≡ first b → ⊥) → a ≡ b → ⊥
 two_names a b other same = other (ap first same)
 
+-- one form
+same_form : (rows : List Row) (form : LineForm) → IsForm Plain rows → IsForm form rows → form ≡ Plain
+same_form rows Plain is also = refl
+same_form rows (InWords as2) is also = let bad : false ≡ true = sym is.0 ∙ also.0 in absurd (cc)
+
 -- one file is read
-of_decode : (rows : List Row) (file : Text) (command : Command) → IsStream false file rows → NamesBy (codes "decode") rows command
+of_decode : (rows : List Row) (file : Text) (command : Command) → IsStream Plain false file rows → NamesBy (codes "decode") rows command
     → IsDecodeOf file command
-of_decode rows file (Decode extended name) is also =
-    let (here, _mrt, _peer, _local, _all, plain) = is in
-    let (there, _mrt, _peer, _local, _all, long) = also.1 in (long ∙ sym plain, same_Some _ _ (sym there ∙ here))
+of_decode rows file (Decode form extended name) is also =
+    let (here, _mrt, _peer, _local, _all, plain, numbers) = is in
+    let (there, _mrt, _peer, _local, _all, long, written) = also.1 in
+    (same_form rows form numbers written, long ∙ sym plain, same_Some _ _ (sym there ∙ here))
 of_decode rows file (Capture session recording name) is also =
-    let (_file, not_mrt, _peer, _local, _all, _plain) = is in
-    let (_file, mrt, _peer, _local, _refresh, _long, _recording) = also.1 in
+    let (_file, not_mrt, _peer, _local, _all, _plain, _form) = is in
+    let (_file, mrt, _peer, _local, _refresh, _long, _recording, _form) = also.1 in
     let bad : false ≡ true = sym not_mrt ∙ mrt in absurd (cc)
 of_decode rows file (Judge config recording explain name) is also = absurd (two_names (codes "decode") (codes "judge") (λ e. omega (arith, e)) also.0)
 of_decode rows file (Import session recording name out) is also = absurd (two_names (codes "decode") (codes "import") (λ e. omega (arith, e)) also.0)
@@ -41,16 +49,16 @@ of_decode rows file (Speak config speaking name) is also = absurd (two_names (co
 of_decode rows file (Pair name) is also = absurd (two_names (codes "decode") (codes "pair") (λ e. omega (arith, e)) also.0)
 
 pub one_file : (used : Option (Text × List Row)) (file : Text) (command : Command)
-    → NamesDecode false file used → Names used command → IsDecodeOf file command
+    → NamesDecode Plain false file used → Names used command → IsDecodeOf file command
 one_file None file command first second = absurd first
 one_file (Some p) file command first second =
     of_decode p.1 file command first.1 (subst (λ (name : Text). NamesBy name p.1 command) first.0 second)
 
 -- where the values of `decode` are none, no command is spelled
-pub none_decoded : (rows : List Row) → ((extended : Bool) (file : Text) → IsStream extended file rows → ⊥)
+pub none_decoded : (rows : List Row) → ((form : LineForm) (extended : Bool) (file : Text) → IsStream form extended file rows → ⊥)
     → ((session : Session) (recording : RecordingOptions) (file : Text) → IsCapture session recording file rows → ⊥)
     → (command : Command) → NamesBy (codes "decode") rows command → ⊥
-none_decoded rows stream capture (Decode extended file) is = stream extended file.now is.1
+none_decoded rows stream capture (Decode form extended file) is = stream form extended file.now is.1
 none_decoded rows stream capture (Capture session recording file) is = capture session recording file.now is.1
 none_decoded rows stream capture (Judge config recording explain file) is = two_names (codes "decode") (codes "judge") (λ e. omega (arith, e)) is.0
 none_decoded rows stream capture (Import session recording file out) is = two_names (codes "decode") (codes "import") (λ e. omega (arith, e)) is.0
@@ -62,7 +70,7 @@ none_decoded rows stream capture (Pair file) is = two_names (codes "decode") (co
 -- the same of `judge`
 pub none_judged : (rows : List Row) → ((config : Config) (recording : RecordingOptions) (explain : Bool) (file : Text) → IsJudge config recording explain file rows → ⊥)
     → (command : Command) → NamesBy (codes "judge") rows command → ⊥
-none_judged rows none (Decode extended file) is = two_names (codes "judge") (codes "decode") (λ e. omega (arith, e)) is.0
+none_judged rows none (Decode form extended file) is = two_names (codes "judge") (codes "decode") (λ e. omega (arith, e)) is.0
 none_judged rows none (Capture session recording file) is = two_names (codes "judge") (codes "decode") (λ e. omega (arith, e)) is.0
 none_judged rows none (Judge config recording explain file) is = none config recording explain file.now is.1
 none_judged rows none (Import session recording file out) is = two_names (codes "judge") (codes "import") (λ e. omega (arith, e)) is.0
@@ -74,7 +82,7 @@ none_judged rows none (Pair file) is = two_names (codes "judge") (codes "pair") 
 -- of `speak`
 pub none_spoken : (rows : List Row) → ((config : Config) (speaking : Speaking) (file : Text) → IsSpeak config speaking file rows → ⊥)
     → (command : Command) → NamesBy (codes "speak") rows command → ⊥
-none_spoken rows none (Decode extended file) is = two_names (codes "speak") (codes "decode") (λ e. omega (arith, e)) is.0
+none_spoken rows none (Decode form extended file) is = two_names (codes "speak") (codes "decode") (λ e. omega (arith, e)) is.0
 none_spoken rows none (Capture session recording file) is = two_names (codes "speak") (codes "decode") (λ e. omega (arith, e)) is.0
 none_spoken rows none (Judge config recording explain file) is = two_names (codes "speak") (codes "judge") (λ e. omega (arith, e)) is.0
 none_spoken rows none (Import session recording file out) is = two_names (codes "speak") (codes "import") (λ e. omega (arith, e)) is.0
@@ -86,7 +94,7 @@ none_spoken rows none (Pair file) is = two_names (codes "speak") (codes "pair") 
 -- of `import`
 pub none_imported : (rows : List Row) → ((session : Session) (recording : RecordingOptions) (file out : Text) → IsImport session recording file out rows → ⊥)
     → (command : Command) → NamesBy (codes "import") rows command → ⊥
-none_imported rows none (Decode extended file) is = two_names (codes "import") (codes "decode") (λ e. omega (arith, e)) is.0
+none_imported rows none (Decode form extended file) is = two_names (codes "import") (codes "decode") (λ e. omega (arith, e)) is.0
 none_imported rows none (Capture session recording file) is = two_names (codes "import") (codes "decode") (λ e. omega (arith, e)) is.0
 none_imported rows none (Judge config recording explain file) is = two_names (codes "import") (codes "judge") (λ e. omega (arith, e)) is.0
 none_imported rows none (Import session recording file out) is = none session recording file.now out.now is.1
@@ -98,7 +106,7 @@ none_imported rows none (Pair file) is = two_names (codes "import") (codes "pair
 -- and of `list`
 pub none_listed : (rows : List Row) → ((port : ℕ) (file : Text) → IsListing port file rows → ⊥)
     → (command : Command) → NamesBy (codes "list") rows command → ⊥
-none_listed rows none (Decode extended file) is = two_names (codes "list") (codes "decode") (λ e. omega (arith, e)) is.0
+none_listed rows none (Decode form extended file) is = two_names (codes "list") (codes "decode") (λ e. omega (arith, e)) is.0
 none_listed rows none (Capture session recording file) is = two_names (codes "list") (codes "decode") (λ e. omega (arith, e)) is.0
 none_listed rows none (Judge config recording explain file) is = two_names (codes "list") (codes "judge") (λ e. omega (arith, e)) is.0
 none_listed rows none (Import session recording file out) is = two_names (codes "list") (codes "import") (λ e. omega (arith, e)) is.0
@@ -110,7 +118,7 @@ none_listed rows none (Pair file) is = two_names (codes "list") (codes "pair") (
 -- and of `check`
 pub none_checked : (rows : List Row) → ((port within : ℕ) (routes settings : Bool) (file : Text) → IsChecking port within routes settings file rows → ⊥)
     → (command : Command) → NamesBy (codes "check") rows command → ⊥
-none_checked rows none (Decode extended file) is = two_names (codes "check") (codes "decode") (λ e. omega (arith, e)) is.0
+none_checked rows none (Decode form extended file) is = two_names (codes "check") (codes "decode") (λ e. omega (arith, e)) is.0
 none_checked rows none (Capture session recording file) is = two_names (codes "check") (codes "decode") (λ e. omega (arith, e)) is.0
 none_checked rows none (Judge config recording explain file) is = two_names (codes "check") (codes "judge") (λ e. omega (arith, e)) is.0
 none_checked rows none (Import session recording file out) is = two_names (codes "check") (codes "import") (λ e. omega (arith, e)) is.0
@@ -133,7 +141,7 @@ few_turns None turns is = absurd is
 few_turns (Some word) turns is = is.1
 
 can_by : (p : Text × List Row) (command : Command) → Names (Some p) command → CanSpeak command
-can_by p (Decode extended file) is = tt
+can_by p (Decode form extended file) is = tt
 can_by p (Capture session recording file) is = tt
 can_by p (Judge config recording explain file) is = tt
 can_by p (Import session recording file out) is = tt
@@ -148,7 +156,7 @@ can_speak (Some p) command is = can_by p command is
 
 -- what imports can do so
 can_import_by : (p : Text × List Row) (command : Command) → Names (Some p) command → CanImport command
-can_import_by p (Decode extended file) is = tt
+can_import_by p (Decode form extended file) is = tt
 can_import_by p (Capture session recording file) is = tt
 can_import_by p (Judge config recording explain file) is = tt
 can_import_by p (Import session recording file out) is = (is.1.1, is.1.3)

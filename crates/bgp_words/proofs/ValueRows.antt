@@ -1,5 +1,5 @@
 -- Each row of words in which a value is at fault.
-use Rattle.std.proofs.Common.{◌≡◌, ℕ, List, [], ◌∷◌, ◌++◌, Option, Some, None, Result, Ok, Err, All, arith, refl, sym, subst, inr, codes}
+use Rattle.std.proofs.Common.{◌≡◌, ℕ, List, [], ◌∷◌, ◌++◌, Option, Some, None, Result, Ok, Err, All, arith, true, false, refl, sym, subst, inr, codes}
 use Rattle.std.specs.Prelude.{IsErrAnd, IsSomeAnd}
 use Rattle.std.specs.Option.{option_map_or}
 use Rattle.std.proofs.lemmas.List.Elements.{All-cons, All-nil, All-weaker}
@@ -9,6 +9,9 @@ use Rattle.clap.specs.declared.error.Error.{Error}
 use Rattle.clap.specs.declared.error.kind.ErrorKind.{ErrorKind}
 use Rattle.clap.specs.declared.error.kind.ErrorKind.TheVariants.{OutOfMemory}
 use Rattle.clap.proofs.OnLiterals.{clap_on_literals}
+use Rattle.bgp_lines.specs.declared.form.LineForm.{LineForm}
+use Rattle.bgp_lines.specs.declared.form.LineForm.TheVariants.{Plain, Names as InWords}
+use Rattle.bgp_words.specs.Decode.{IsForm}
 use Rattle.bgp_words.specs.Recording.{AreRecordingOptions}
 use Rattle.bgp_words.specs.Speak.{AreOptions, IsStart}
 use Rattle.bgp_words.specs.Values.{IsPortText, IsPositiveText, IsValue}
@@ -19,7 +22,7 @@ use Rattle.bgp_talk.specs.declared.options.Speaking.{Speaking}
 use Rattle.bgp_talk.specs.declared.options.Start.{Start}
 use Rattle.bgp_talk.specs.declared.options.Start.TheVariants.{Connect, Listen}
 use Rattle.bgp_words.specs.declared.words.Command.{Command}
-use Rattle.bgp_words.proofs.NamedCommand.{none_imported, none_listed, none_spoken}
+use Rattle.bgp_words.proofs.NamedCommand.{none_decoded, none_imported, none_listed, none_spoken}
 
 -- what is found in a row
 abbrev found : Text → List Text → List Row
@@ -119,6 +122,36 @@ list_port_0 : (name : Text) → LacksPort (found name (codes "list" ∷ codes "-
 unfolding clap_on_literals
 list_port_0 name port is = is.2 (sym is.0.1)
 
+-- of `decode` no form is told, or one that a capture hasn't
+abbrev as2_words : List Text
+as2_words = codes "decode" ∷ codes "--as2" ∷ codes "a.bgp" ∷ []
+
+abbrev names_words : List Text
+names_words = codes "decode" ∷ codes "--names" ∷ codes "--mrt" ∷ codes "--peer" ∷ codes "192.0.2.2"
+    ∷ codes "--local" ∷ codes "192.0.2.1" ∷ codes "a.mrt" ∷ []
+
+as2_alone : (name : Text) (form : LineForm) → IsForm form (found name as2_words) → ⊥
+unfolding clap_on_literals
+as2_alone name Plain is = let bad : true ≡ false = is.1 in absurd (cc)
+as2_alone name (InWords as2) is = let bad : false ≡ true = is.0 in absurd (cc)
+
+no_as2 : (name : Text) → NamesNone name as2_words
+unfolding clap_on_literals
+no_as2 name command named =
+    none_decoded (found name as2_words)
+    (λ form extended file is. as2_alone name form (let (_file, _mrt, _peer, _local, _all, _plain, form) = is in form))
+    (λ session recording file is. as2_alone name Plain (let (_file, _mrt, _peer, _local, _refresh, _long, _recording, form) = is in form))
+    command named
+
+no_names : (name : Text) → NamesNone name names_words
+unfolding clap_on_literals
+no_names name command named =
+    none_decoded (found name names_words)
+    (λ form extended file is. let bad : true ≡ false = is.1 in absurd (cc))
+    (λ session recording file is. let (_file, _mrt, _peer, _local, _refresh, _long, _recording, form) = is in
+    let bad : true ≡ false = form.0 in absurd (cc))
+    command named
+
 -- one row after another
 abbrev AreRows : Text → List (List Text) → Type 0
 AreRows name [] = Unit {0}
@@ -143,7 +176,7 @@ import_row name option value passes names lacks =
 rows_of_recordings : (name : Text) → AreRows name (
     import_with (codes "--port") (codes "65536") ∷ import_with (codes "--local-port") (codes "0")
     ∷ import_with (codes "--connection") (codes "0") ∷ import_with (codes "--within") (codes "65536")
-    ∷ (codes "list" ∷ codes "--port" ∷ codes "0" ∷ codes "a.pcap" ∷ []) ∷ [])
+    ∷ (codes "list" ∷ codes "--port" ∷ codes "0" ∷ codes "a.pcap" ∷ []) ∷ as2_words ∷ names_words ∷ [])
 unfolding clap_on_literals
 rows_of_recordings name = (
   import_row name (codes "--port") (codes "65536") refl refl (high_port name),
@@ -158,7 +191,10 @@ rows_of_recordings name = (
             passes = refl;
             nothing = no_list name (codes "list" ∷ codes "--port" ∷ codes "0" ∷ codes "a.pcap" ∷ []) refl (list_port_0 name);
           },
-          tt,
+          (
+            record { passes = refl; nothing = no_as2 name },
+            (record { passes = refl; nothing = no_names name }, tt),
+          ),
         ),
       ),
     ),

@@ -1,9 +1,12 @@
--- The values of `decode`: a file, and for a capture or a recording the session.
+-- The values of `decode`: the form of its lines, a file, and for a capture or a recording the
+-- session.
 use Rattle.std.specs.Prelude.{◌≡◌, ◌⊎◌, Bool, true, false, List, [], ◌∷◌, Some, None}
 use Rattle.std.specs.Prelude.{codes}
 use Rattle.clap.specs.Words.{Row, Text, first_of}
 use Rattle.bgp_prefix.specs.Notation.{IsAddressText}
 use Rattle.bgp_prefix.specs.declared.session.Session.{Session}
+use Rattle.bgp_lines.specs.declared.form.LineForm.{LineForm}
+use Rattle.bgp_lines.specs.declared.form.LineForm.TheVariants.{Plain, Names}
 use Rattle.bgp_words.specs.Values.{IsNoFlag, IsValue, is_given}
 use Rattle.bgp_words.specs.Recording.{AreRecordingOptions, refresh_told}
 use Rattle.bgp_import.specs.declared.options.RecordingOptions.{RecordingOptions}
@@ -12,17 +15,26 @@ use Rattle.bgp_words.specs.declared.words.Command.TheVariants.{Decode, Capture, 
 use Rattle.bgp_words.specs.declared.words.Command.TheVariants.{Check, Import, List as Listing}
 use Rattle.bgp_words.specs.declared.words.Command.TheVariants.{Speak, Pair}
 
--- the values of `decode FILE` or `decode --extended FILE`: no other word of a capture is given
-abbrev pub IsStream : Bool → Text → List Row → Type 0
-IsStream extended file rows =
+-- The form of the lines: in words with `--names`, and with `--as2` besides their AS paths and
+-- aggregators have AS numbers of two octets. `--as2` isn't given alone.
+abbrev pub IsForm : LineForm → List Row → Type 0
+IsForm Plain rows =
+    (is_given (codes "names") rows ≡ false) × (is_given (codes "as2") rows ≡ false)
+IsForm (Names as2) rows =
+    (is_given (codes "names") rows ≡ true) × (as2 ≡ is_given (codes "as2") rows)
+
+-- the values of `decode FILE`, with `--names`, `--names --as2` or neither, and with `--extended` or
+-- without: no other word of a capture is given
+abbrev pub IsStream : LineForm → Bool → Text → List Row → Type 0
+IsStream form extended file rows =
     (first_of (codes "FILE") rows ≡ Some file) × (is_given (codes "mrt") rows ≡ false)
     × (first_of (codes "peer") rows ≡ None) × (first_of (codes "local") rows ≡ None)
     × (is_given (codes "skip-refresh") rows ≡ false)
-    × (extended ≡ is_given (codes "extended") rows)
+    × (extended ≡ is_given (codes "extended") rows) × IsForm form rows
 
 -- The values of `decode --mrt --peer A --local A FILE`, of a session without route refresh, whose
 -- messages are passed over with `--skip-refresh`; `--extended`: the local system offers extended
--- messages. What is told of a recording is there whatever FILE is.
+-- messages. What is told of a recording is there whatever FILE is. Its lines aren't in words.
 abbrev pub IsCapture : Session → RecordingOptions → Text → List Row → Type 0
 IsCapture session recording file rows =
     (first_of (codes "FILE") rows ≡ Some file) × (is_given (codes "mrt") rows ≡ true)
@@ -30,7 +42,7 @@ IsCapture session recording file rows =
     × IsValue IsAddressText (codes "local") rows session.local
     × (session.refresh ≡ refresh_told false rows)
     × (session.extended ≡ is_given (codes "extended") rows)
-    × AreRecordingOptions recording rows
+    × AreRecordingOptions recording rows × IsForm Plain rows
 
 -- a word that names a file: it is no flag, or a dash alone
 abbrev pub IsFileWord : Text → Type 0
@@ -42,9 +54,10 @@ IsDecode words file = (name : Text)
     × (((words ≡ name ∷ codes "decode" ∷ file ∷ []) × IsFileWord file)
     ⊎ (words ≡ name ∷ codes "decode" ∷ codes "--" ∷ file ∷ []))
 
--- the command is `decode` of this file, with the limit of 4096 octets
+-- the command is `decode` of this file, with lines in numbers and the limit of 4096 octets
 abbrev pub IsDecodeOf : Text → Command → Type 0
-IsDecodeOf text (Decode extended file) = (extended ≡ false) × (file.now ≡ text)
+IsDecodeOf text (Decode form extended file) =
+    (form ≡ Plain) × (extended ≡ false) × (file.now ≡ text)
 IsDecodeOf text (Capture session recording file) = ⊥
 IsDecodeOf text (Judge config recording explain file) = ⊥
 IsDecodeOf text (Import session recording file out) = ⊥

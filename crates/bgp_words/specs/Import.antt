@@ -42,7 +42,7 @@ IsChecking port within routes settings file rows =
 
 -- a command to import can be done: its session is of one family, and its ends can be told apart
 abbrev pub CanImport : Command → Type 0
-CanImport (Decode extended file) = Unit {0}
+CanImport (Decode form extended file) = Unit {0}
 CanImport (Capture session recording file) = Unit {0}
 CanImport (Judge config recording explain file) = Unit {0}
 CanImport (Import session recording file out) =

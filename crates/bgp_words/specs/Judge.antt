@@ -51,7 +51,7 @@ pub record IsJudgeLine (words : List Text) (parts : ConfigParts) (file : Text) :
 -- the command is `judge` with what these words tell; nothing is told of a recording, and no reason
 -- is wanted
 abbrev pub IsJudgeOf : List Text → Command → Type 0
-IsJudgeOf words (Decode extended file) = ⊥
+IsJudgeOf words (Decode form extended file) = ⊥
 IsJudgeOf words (Capture session recording file) = ⊥
 IsJudgeOf words (Judge config recording explain file) =
     IsJudgeLine words config.parts file.now × (recording ≡ usual_recording)

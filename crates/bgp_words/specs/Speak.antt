@@ -42,7 +42,7 @@ IsSpeak config speaking file rows =
 
 -- a command to speak can be done: both addresses are of one family, and turns can be counted
 abbrev pub CanSpeak : Command → Type 0
-CanSpeak (Decode extended file) = Unit {0}
+CanSpeak (Decode form extended file) = Unit {0}
 CanSpeak (Capture session recording file) = Unit {0}
 CanSpeak (Judge config recording explain file) = Unit {0}
 CanSpeak (Import session recording file out) = Unit {0}

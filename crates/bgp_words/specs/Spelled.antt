@@ -10,6 +10,7 @@ use Rattle.clap.specs.declared.error.kind.ErrorKind.TheVariants.{DisplayHelp, Di
 use Rattle.clap.specs.declared.error.kind.ErrorKind.TheVariants.{MissingRequiredArgument}
 use Rattle.clap.specs.declared.error.kind.ErrorKind.TheVariants.{MissingSubcommand, OutOfMemory}
 use Rattle.clap.specs.declared.error.kind.ErrorKind.TheVariants.{ValueValidation}
+use Rattle.bgp_lines.specs.declared.form.LineForm.{LineForm}
 use Rattle.bgp_open.specs.declared.config.Config.{Config}
 use Rattle.bgp_words.specs.Decode.{IsStream, IsCapture, IsDecodeOf}
 use Rattle.bgp_words.specs.Judge.{IsJudge, IsJudgeOf}
@@ -30,7 +31,7 @@ IsUsed name values (Some used) = (used.0 ≡ name) × values used.1
 
 -- the name of a command
 abbrev pub name_of : Command → Text
-name_of (Decode extended file) = codes "decode"
+name_of (Decode form extended file) = codes "decode"
 name_of (Capture session recording file) = codes "decode"
 name_of (Judge config recording explain file) = codes "judge"
 name_of (Import session recording file out) = codes "import"
@@ -41,7 +42,7 @@ name_of (Pair file) = codes "pair"
 
 -- its values
 abbrev pub AreValuesOf : Command → List Row → Type 0
-AreValuesOf (Decode extended file) = IsStream extended file.now
+AreValuesOf (Decode form extended file) = IsStream form extended file.now
 AreValuesOf (Capture session recording file) = IsCapture session recording file.now
 AreValuesOf (Judge config recording explain file) = IsJudge config recording explain file.now
 AreValuesOf (Import session recording file out) = IsImport session recording file.now out.now
@@ -59,9 +60,10 @@ Names used command = IsUsed (name_of command) (AreValuesOf command) used
 abbrev pub NamesBy : Text → List Row → Command → Type 0
 NamesBy name rows = Names (Some (name, rows))
 
--- `decode` was named, of a stream, with extended messages or without, and with this file
-abbrev pub NamesDecode : Bool → Text → Option (Text × List Row) → Type 0
-NamesDecode extended file = IsUsed (codes "decode") (IsStream extended file)
+-- `decode` was named, of a stream, with lines in this form, with extended messages or without, and
+-- with this file
+abbrev pub NamesDecode : LineForm → Bool → Text → Option (Text × List Row) → Type 0
+NamesDecode form extended file = IsUsed (codes "decode") (IsStream form extended file)
 
 -- `judge` was named, with this configuration, what is told of a recording, the wish for the reason
 -- or none, and this file
@@ -167,7 +169,8 @@ fault_rows =
 
 -- Words after the program's name in which no word is at fault, and a value or what is given beside
 -- it is: neither way to come to a connection, both, ports 0 and 65536, and 2 to the 63rd turns; of
--- recordings ports 0 and 65536, connection 0, and 65536 seconds.
+-- recordings ports 0 and 65536, connection 0, and 65536 seconds; AS numbers of two octets in lines
+-- that aren't in words, and records in words.
 abbrev pub value_rows : List (List Text)
 value_rows =
     speak_with (next_hop4 ++ next_hop6)
@@ -181,7 +184,10 @@ value_rows =
     ∷ import_with (codes "--local-port") (codes "0")
     ∷ import_with (codes "--connection") (codes "0")
     ∷ import_with (codes "--within") (codes "65536")
-    ∷ (codes "list" ∷ codes "--port" ∷ codes "0" ∷ codes "a.pcap" ∷ []) ∷ []
+    ∷ (codes "list" ∷ codes "--port" ∷ codes "0" ∷ codes "a.pcap" ∷ [])
+    ∷ (codes "decode" ∷ codes "--as2" ∷ codes "a.bgp" ∷ [])
+    ∷ (codes "decode" ∷ codes "--names" ∷ codes "--mrt" ∷ codes "--peer" ∷ codes "192.0.2.2"
+    ∷ codes "--local" ∷ codes "192.0.2.1" ∷ codes "a.mrt" ∷ []) ∷ []
 
 -- an error of this kind, or memory was refused
 abbrev pub IsFault : ErrorKind → Result Command Error → Type 0

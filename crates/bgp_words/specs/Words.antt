@@ -40,11 +40,13 @@ with_recording command =
     (option_word (codes "local-port"))) (option_word (codes "connection"))) within_word)
     (flag_word (codes "skip-refresh"))
 
--- `decode FILE`, `decode --mrt --peer A --local A FILE`, each with `--extended` or without, and
--- with the options of a session that is read
+-- `decode FILE`, `decode --mrt --peer A --local A FILE`, each with `--extended` or without, with
+-- `--names` and `--as2` or without, and with the options of a session that is read
 abbrev pub decode_words : App
 decode_words =
-    with_recording (with_rule (with_rule (with_rule (with_rule (with_file (codes "decode"))
+    with_recording (with_rule (with_rule (with_rule (with_rule (with_rule (with_rule
+    (with_file (codes "decode"))
+    (flag_word (codes "names"))) (flag_word (codes "as2")))
     (flag_word (codes "mrt"))) (option_word (codes "peer"))) (option_word (codes "local")))
     (flag_word (codes "extended")))
 

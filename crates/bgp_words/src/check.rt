@@ -22,35 +22,35 @@ setting. FILE is a recording, a packet capture as tcpdump -w writes it (pcap or 
 capture of MRT records. What is configured is read off the OPEN that an end sent; what an OPEN
 doesn't say is left free.
 
-Of each connection at --port in a recording:
-  connection 1 from 192.0.2.2 40000 to 192.0.2.1 179 at 1500000000 octets 114 84
+For each connection at --port in a recording:
+  connection 1: 192.0.2.2:40000 to 192.0.2.1:179 at 2017-07-14 02:40:00 UTC, packet 1, octets ..
                         as bgp list prints it; its two ends follow, first that which opened it
-  yes: 192.0.2.2 40000 as 65002, peer as 65001
-                        all is allowed, for a peer of that AS number, for another than a number, or
-                        for any; and then where it may have ended, and the highest state before:
-    end Idle disabled - routes 0 reached Established
-  no at packet 8: 192.0.2.2 40000 as 65002, peer as 65001
-                        no configuration that its OPEN allows explains a message that this packet
-                        shows as sent, in no order that the packets allow within --within
-  no at record 9, packet 8: 192.0.2.2 40000 as 65002, peer as 65001
-                        the same of one order: there are too many, or no memory, to try them all
-  unfinished: 192.0.2.2 40000 as 65002, peer as 65001
-                        it still owes something, in one order; or in all, as a line below says then
-  not judged: 192.0.2.1 179, no sent message
+  yes: 192.0.2.2:40000 (AS 65002): Established, routes from its peer: 2
+                        all is allowed; the AS number of its OPEN, and the state in which it may be.
+                        The line says if its peer has to have another AS number than its OPEN says
+  no at packet 8, 2017-07-14 02:40:02 UTC: 192.0.2.2:40000 (AS 65002) sent UPDATE to ..
+                        no configuration that its OPEN allows explains what it did, in no order that
+                        the packets allow within --within, or in one, as a note says then. The line
+                        goes on with what is wrong
+  unfinished after packet 9, 2017-07-14 02:40:02 UTC: 192.0.2.2:40000 (AS 65002) has not done ..
+                        it still owes something, in one order; or in all, as a note says then
+  not judged: 192.0.2.1:179 (AS unknown): the file has no message that it sent
                         why nothing can be said of it
-of each session in a capture:
-  session peer 192.0.2.2 local 192.0.2.1: 3 received, 2 sent, 4 changes, @1500000000 to @1500000060
+for each session in a capture:
+  session: 192.0.2.1 with peer 192.0.2.2, 2017-07-14 02:40:00 to 02:41:00 UTC, records 9: ..
                         as bgp list prints it; the answers on its local end follow, one for each
                         part of its records that begins with a change from Idle:
-  yes: 192.0.2.1 as 65001, peer as 65002, records 1 to 9
-                        or another as above, and which records of the session it is about
+  yes: 192.0.2.1 (AS 65001, records 1 to 9): Established, routes from its peer: 1
+                        or another as above, with a record for a packet; which records of the
+                        session it is about, if there are several parts
 and last:
   ends 2: 1 yes, 0 no, 0 unfinished, 1 not judged; refused 0
 
-After a no and an unfinished the reason follows, in lines that are set in, as judge --explain tells
-it; and after these, and with --settings after a yes too, a line
-    judge --local-as 65001 --peer-as 65002 --local-id 192.0.2.1 ..
-with options for which judge says the same of FILE, where there are such. They are the widest
+After a no and an unfinished the reason follows, indented, as judge --explain prints it: what was
+sent, the state, what was received last, and all that could have come instead. With --settings each
+end has a line
+  repeat: bgp judge --local-as 65001 --peer-as 65002 --local-id 192.0.2.1 .. FILE
+with options for which judge says the same of FILE, if there are such. They are the most permissive
 configuration that the OPEN allows, and not the router's own.
 
 ROUTE-REFRESH messages that their receiver's OPEN offers to read are passed over, and a note counts

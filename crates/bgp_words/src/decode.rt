@@ -1,11 +1,14 @@
 //! The words of `decode`.
 
-ghost use Rattle.std.specs.Prelude.{◌≡◌, ℕ, Bool, List, IfOk, IsErr, false, codes};
+ghost use Rattle.std.specs.Prelude.{◌≡◌, ◌↔◌, ℕ, Bool, List, IfOk, IsErr, IsOkAnd, codes};
+ghost use Rattle.std.specs.Prelude.{true, false};
 ghost use Rattle.clap.specs.Words.{app_of, found_of, rows_of};
 ghost use Rattle.clap.specs.declared.builder.command.Command.TheViews.{out-Command as fields_of};
 ghost use Rattle.bgp_words.specs.Words.{decode_words};
-ghost use Rattle.bgp_words.specs.Decode.{IsStream, IsCapture};
+ghost use Rattle.bgp_lines.specs.declared.form.LineForm.{LineForm as Form};
+ghost use Rattle.bgp_words.specs.Decode.{IsForm, IsStream, IsCapture};
 ghost use Rattle.bgp_words.specs.Spelled.{NamesBy};
+ghost use Rattle.bgp_words.specs.Values.{is_given};
 ghost use Rattle.bgp_import.specs.declared.options.RecordingOptions.{RecordingOptions as Told};
 
 use crate::misfit::Misfit;
@@ -13,6 +16,7 @@ use crate::options::{READ, Word, with_words};
 use crate::recording::{recording_of, refresh_of, with_recording};
 use crate::values::{address_of, has_flag, has_value, value_of};
 use crate::words::Command;
+use bgp_lines::LineForm;
 use bgp_prefix::Session;
 use clap::ArgMatches;
 use std::alloc::{AllocError, Global};
@@ -41,6 +45,20 @@ and last, where the stream doesn't end with a message:
   rest 10               the stream ends 10 octets into a message
   fault at 19 1/2       the header at octet 19 is wrong: 1/1 its marker, 1/2 its length,
                         1/3 its type
+decode --names prints the same in words, with bars between the parts of a line:
+  open as 65002 hold 90 id 192.0.2.2 | Multiprotocol IPv4 unicast | Four-octet AS 65002
+                        the capabilities by their names, with what each says
+  update withdrawn 10.2.0.0/16 | announced 10.3.0.0/16 | origin IGP | path 65002 | via 192.0.2.2
+                        prefixes, and the attributes by the words of a route's line, in their order;
+                        flags N follows one whose flags aren't those of its type
+  update End-of-RIB IPv4 unicast
+                        all routes of this family have been sent
+  notification 6/2 Cease, Administrative Shutdown: \"bye\"
+                        error code, subcode, their names, and what the data says
+  rest 3: ffffff        the octets of the unfinished message
+What doesn't have its form is in hexadecimal after the word octets, what has no name after its
+number. AS numbers have four octets unless an OPEN before them lacks capability 65. A stream has one
+direction: if the other side's OPEN lacks it, give --as2.
 decode --mrt prints one line a record of the session:
   @1500000000 received keepalive
   @1500000000 sent notification 6/2 -
@@ -63,8 +81,13 @@ passed over. A dash stands for nothing.
 The manual is docs/bgp.1.md, at the top of the repository.";
 
 /// The words after `decode`.
-static WORDS: [Word<'static>; 5] = [
+static WORDS: [Word<'static>; 7] = [
     READ,
+    Word::Flag("names", "Prints a stream's messages in words"),
+    Word::Flag(
+        "as2",
+        "AS numbers in AS_PATH and AGGREGATOR have two octets, with --names",
+    ),
     Word::Flag(
         "mrt",
         "Prints the records of one session: FILE is an MRT or pcap file",
@@ -95,34 +118,82 @@ pub(crate) fn decode_words<'a>(alloc: Global) -> Result<clap::Command<'a>, Alloc
 /// The command that the values of `decode` are. The flag and both addresses are given, or none.
 pub(crate) fn decode_of<'a>(decode: &ArgMatches<'a>) -> Result<Command<'a>, Misfit<'a>>
     ensures ok { IfOk result (NamesBy (codes "decode") (rows_of (found_of decode.now))) }
-    ensures no_stream { IsErr result → (extended : Bool) (file : List ℕ) →
-        IsStream extended file (rows_of (found_of decode.now)) → ⊥ }
+    ensures no_stream { IsErr result → (form : Form) (extended : Bool) (file : List ℕ) →
+        IsStream form extended file (rows_of (found_of decode.now)) → ⊥ }
     ensures no_capture { IsErr result → (session : Session) (recording : Told) (file : List ℕ) →
         IsCapture session recording file (rows_of (found_of decode.now)) → ⊥ }
 {
+    if has_flag(decode, "mrt") {
+        capture_of(decode)
+    } else {
+        stream_of(decode)
+    }
+}
+
+/// The command that the values of `decode --mrt` are.
+fn capture_of<'a>(decode: &ArgMatches<'a>) -> Result<Command<'a>, Misfit<'a>>
+    requires { is_given (codes "mrt") (rows_of (found_of decode.now)) ≡ true }
+    ensures ok { IfOk result (NamesBy (codes "decode") (rows_of (found_of decode.now))) }
+    ensures err { IsErr result → (session : Session) (recording : Told) (file : List ℕ) →
+        IsCapture session recording file (rows_of (found_of decode.now)) → ⊥ }
+{
+    if has_flag(decode, "names") {
+        return Err(Misfit::NamesInCapture);
+    }
+    if has_flag(decode, "as2") {
+        return Err(Misfit::As2WithoutNames);
+    }
+    let file = value_of(decode, "FILE")?;
+    let peer = address_of(decode, "peer")?;
+    let local = address_of(decode, "local")?;
+    let session = Session {
+        peer,
+        local,
+        refresh: refresh_of(decode, false),
+        extended: has_flag(decode, "extended"),
+    };
+    let recording = recording_of(decode)?;
+    Ok(Command::Capture {
+        session,
+        recording,
+        file,
+    })
+}
+
+/// The command that the values of `decode` are without `--mrt`.
+fn stream_of<'a>(decode: &ArgMatches<'a>) -> Result<Command<'a>, Misfit<'a>>
+    requires { is_given (codes "mrt") (rows_of (found_of decode.now)) ≡ false }
+    ensures ok { IfOk result (NamesBy (codes "decode") (rows_of (found_of decode.now))) }
+    ensures err { IsErr result → (form : Form) (extended : Bool) (file : List ℕ) →
+        IsStream form extended file (rows_of (found_of decode.now)) → ⊥ }
+{
+    let form = form_of(decode)?;
     let file = value_of(decode, "FILE")?;
     let extended = has_flag(decode, "extended");
-    if has_flag(decode, "mrt") {
-        let peer = address_of(decode, "peer")?;
-        let local = address_of(decode, "local")?;
-        let session = Session {
-            peer,
-            local,
-            refresh: refresh_of(decode, false),
-            extended,
-        };
-        let recording = recording_of(decode)?;
-        return Ok(Command::Capture {
-            session,
-            recording,
-            file,
-        });
-    }
     if has_value(decode, "peer") || has_value(decode, "local") {
         return Err(Misfit::Missing { name: "mrt" });
     }
     if has_flag(decode, "skip-refresh") {
         return Err(Misfit::SkipsInStream);
     }
-    Ok(Command::Decode { extended, file })
+    Ok(Command::Decode {
+        form,
+        extended,
+        file,
+    })
+}
+
+/// The form of the lines. How many octets an AS number has is asked for lines in words alone.
+fn form_of<'a>(decode: &ArgMatches<'a>) -> Result<LineForm, Misfit<'a>>
+    ensures { (form : Form) → IsOkAnd result (λ it. it ≡ form)
+        ↔ IsForm form (rows_of (found_of decode.now)) }
+{
+    let as2 = has_flag(decode, "as2");
+    if has_flag(decode, "names") {
+        return Ok(LineForm::Names { as2 });
+    }
+    if as2 {
+        return Err(Misfit::As2WithoutNames);
+    }
+    Ok(LineForm::Plain)
 }

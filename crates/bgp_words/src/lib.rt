@@ -2,7 +2,7 @@
 //!
 //! ```text
 //! match command_line(alloc, words)? {
-//!     Command::Decode { extended, file } => ..
+//!     Command::Decode { form, extended, file } => ..
 //! }
 //! ```
 #![tactic(auto)]

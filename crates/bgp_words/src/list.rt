@@ -21,27 +21,27 @@ list prints the connections at --port in a recording, or the sessions in a captu
 doesn't know the addresses. FILE is a recording, a packet capture as tcpdump -w writes it (pcap or
 pcapng), or a capture of MRT records. A line of a recording is one of these, in the order of first
 packets:
-  connection 1 from 192.0.2.2 40000 to 192.0.2.1 179 at 1500000000 octets 114 84
+  connection 1: 192.0.2.2:40000 to 192.0.2.1:179 at 2017-07-14 02:40:00 UTC, packet 1, octets ..
                         its number between its two addresses, which --connection of judge, decode
                         and import takes; who opened it, from which port; to whom, at which port;
-                        the second of its first packet; how many octets each of both sent
-  connection 2 from 192.0.2.2 40001 to 192.0.2.1 179 at 1500000060 refused 14 Missing at packet 7
-                        its octets aren't whole: the reason's number and name, and the packet's
-                        number from 1
-  session 192.0.2.1 192.0.2.2 refused 7 Fragment at packet 4
-                        a packet between two addresses can't be read: a fragment, or 8 Cut where not
+                        time and number of its first packet; how many octets each of both sent
+  connection 2: 192.0.2.2:40001 to 192.0.2.1:179 at 2017-07-14 02:41:00 UTC, packet 10
+  refused at packet 17: 14 Missing, octets are missing before it
+                        its octets aren't whole: the packet's number from 1, the reason's number and
+                        name, and the cause
+  refused at packet 4, between 192.0.2.1 and 192.0.2.2: 7 Fragment, a fragment of an IP packet
+                        a packet between two addresses can't be read: a fragment, or 8 Cut if not
                         all of its headers were kept. It may be of any of their connections, so none
                         of these is listed
-and last, where the file can't be read on:
-  recording refused: 4 Block at packet 9
-                        the reason's number and name, and the packet's number
+and last, if the file can't be read on:
+  refused at packet 9: 4 Block, a block's lengths do not agree, or a packet has no time
 A line of a capture, in the order of first records:
-  session peer 192.0.2.2 local 192.0.2.1: 3 received, 2 sent, 4 changes, @1500000000 to @1500000060
-                        the addresses, which --peer and --local of judge and decode take; how many
-                        messages and changes of state; the seconds of its first and last record
-and last, where the file can't be read on:
-  capture refused: 1 Truncated at 36
-                        the reason's number and name, and the offset of the record
+  session: 192.0.2.1 with peer 192.0.2.2, 2017-07-14 02:40:00 to 02:41:00 UTC, records 9: ..
+                        the addresses, which --local and --peer of judge and decode take; the times
+                        of its first and last record; how many messages and changes of state
+and last, if the file can't be read on:
+  refused at octet 36: 1 Truncated, the file ends inside a record
+                        the offset of the record, the reason's number and name, and the cause
 
 Exit status:
   0   the file was read to its end; or help was asked for

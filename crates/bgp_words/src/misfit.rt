@@ -118,6 +118,10 @@ pub(crate) enum Misfit<'a> {
     },
     /// The messages to pass over are a stream's, and not a session's.
     SkipsInStream,
+    /// AS numbers are to have two octets, and the lines aren't to be in words.
+    As2WithoutNames,
+    /// The lines of a session's records are to be in words.
+    NamesInCapture,
     /// The value of an option isn't what it wants.
     Value {
         /// The option's name.
@@ -175,6 +179,12 @@ impl Display for Misfit<'_> {
             ),
             Misfit::SkipsInStream => f.write_str(
                 "--skip-refresh wants --mrt, --peer and --local: of a raw stream all is printed",
+            ),
+            Misfit::As2WithoutNames => f.write_str(
+                "--as2 wants --names: without it no AS path is read",
+            ),
+            Misfit::NamesInCapture => f.write_str(
+                "--names doesn't go with --mrt yet: it is for raw streams only",
             ),
             Misfit::Value { name, word, wanted } => {
                 write!(f, "--{name} wants {wanted}, and {word:?} is none")

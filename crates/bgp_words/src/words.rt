@@ -4,6 +4,7 @@ ghost use Rattle.std.specs.Prelude.{◌≡◌, ◌≢◌, ◌∷◌, ℕ, Bool, 
 ghost use Rattle.std.specs.Prelude.{true};
 ghost use Rattle.clap.specs.Words.{app_of, kind_of, subcommand_rows_of, IsAmong};
 ghost use Rattle.clap.specs.Words.{FailsBy, HasMatchesOf, fault_of, is_simple_and_free};
+ghost use Rattle.bgp_lines.specs.declared.form.LineForm.{LineForm as Form};
 ghost use Rattle.bgp_open.specs.declared.config.Config.{Config as Configured};
 ghost use Rattle.bgp_words.specs.Words.{program_words, with_readers, with_speakers};
 ghost use Rattle.bgp_words.specs.Decode.{IsDecode};
@@ -25,6 +26,7 @@ use crate::pair::{pair_of, pair_words};
 use crate::speak::{speak_of, speak_words};
 use crate::usage::plain;
 use bgp_import::RecordingOptions;
+use bgp_lines::LineForm;
 use bgp_open::Config;
 use bgp_prefix::Session;
 use bgp_talk::Speaking;
@@ -38,6 +40,8 @@ use std::convert::AsStr;
 pub enum Command<'a> {
     /// Print a raw stream, one line a message.
     Decode {
+        /// How the lines are written.
+        form: LineForm,
         /// Whether UPDATE and NOTIFICATION messages may be extended ones (RFC 8654).
         extended: bool,
         /// The file's path, or `-` for standard input.
@@ -230,8 +234,8 @@ fn matches_of<'a, S: AsStr>(
 /// The command that was named.
 fn named<'a>(matches: &ArgMatches<'a>) -> Result<Command<'a>, Misfit<'a>>
     ensures ok { IfOk result (Names (subcommand_rows_of matches.now)) }
-    ensures no_stream { IsErr result → (extended : Bool) (file : List ℕ) →
-        NamesDecode extended file (subcommand_rows_of matches.now) → ⊥ }
+    ensures no_stream { IsErr result → (form : Form) (extended : Bool) (file : List ℕ) →
+        NamesDecode form extended file (subcommand_rows_of matches.now) → ⊥ }
     ensures no_judge { IsErr result →
         (config : Configured) (recording : Told) (explain : Bool) (file : List ℕ) →
         NamesJudge config recording explain file (subcommand_rows_of matches.now) → ⊥ }

@@ -1,5 +1,6 @@
 //! A capture and its answer, told by a block of lines.
 
+use bgp_lines::LineForm;
 use bgp_prefix::{Address, RouteRefresh, Session, read_address};
 use hex::FromHexError;
 use std::alloc::{AllocError, Global};
@@ -12,16 +13,18 @@ pub(crate) struct Piece {
     pub(crate) text: String,
 }
 
-/// A capture of one session, and the status that decoding it answers.
+/// A capture of one session or a stream, the form of its lines, and the status that decoding it
+/// answers.
 #[derive(Drop)]
 pub(crate) struct Case {
     pub(crate) session: Session,
+    pub(crate) form: LineForm,
     pub(crate) pieces: Vec<Piece>,
     pub(crate) status: u8,
 }
 
 /// Reads a block of lines: `case` and what it teaches; `args` and the words of the command, which a
-/// stream has none of; `refresh`, where the session may have route refresh; `octets` and a piece of
+/// stream needs none of; `refresh`, where the session may have route refresh; `octets` and a piece of
 /// the capture; `>` and a line that is printed for it; `status` and a number.
 pub(crate) fn read_case(alloc: Global, block: &str) -> io::Result<Case> {
     let mut case = Case {
@@ -31,6 +34,7 @@ pub(crate) fn read_case(alloc: Global, block: &str) -> io::Result<Case> {
             refresh: RouteRefresh::NotOffered,
             extended: false,
         },
+        form: LineForm::Plain,
         pieces: Vec::new(alloc),
         status: 0,
     };
@@ -45,7 +49,7 @@ fn take_line(alloc: Global, case: &mut Case, line: &str) -> io::Result<()> {
     let (word, rest) = line.split_once(' ').unwrap_or((line, ""));
     match word {
         "case" => Ok(()),
-        "args" => take_words(&mut case.session, rest),
+        "args" => take_words(case, rest),
         "refresh" => {
             case.session.refresh = RouteRefresh::Refused;
             Ok(())
@@ -60,15 +64,34 @@ fn take_line(alloc: Global, case: &mut Case, line: &str) -> io::Result<()> {
     }
 }
 
+/// Takes what the words of the command tell: the form of the lines, and the session of a capture.
+fn take_words(case: &mut Case, words: &str) -> io::Result<()> {
+    if has_word(words, "--names") {
+        case.form = LineForm::Names {
+            as2: has_word(words, "--as2"),
+        };
+    }
+    if has_word(words, "--mrt") {
+        take_session(&mut case.session, words)
+    } else {
+        Ok(())
+    }
+}
+
 /// Takes what the words of the command tell of a session.
-fn take_words(session: &mut Session, words: &str) -> io::Result<()> {
+fn take_session(session: &mut Session, words: &str) -> io::Result<()> {
     session.peer = address_behind(words, "--peer")?;
     session.local = address_behind(words, "--local")?;
-    session.extended = words.split(' ').any(|word| word == "--extended");
-    if words.split(' ').any(|word| word == "--skip-refresh") {
+    session.extended = has_word(words, "--extended");
+    if has_word(words, "--skip-refresh") {
         session.refresh = RouteRefresh::PassedOver;
     }
     Ok(())
+}
+
+/// Whether a word is among those of the command.
+fn has_word(words: &str, wanted: &str) -> bool {
+    words.split(' ').any(|word| word == wanted)
 }
 
 /// Appends a piece, for which nothing is printed yet.

@@ -1,7 +1,8 @@
 //! Streams of one direction, and the lines that are printed of them.
 
 use crate::case::{Piece, malformed, read_case};
-use bgp_tool::{decode_raw, text_and_status};
+use bgp_lines::LineForm;
+use bgp_tool::{StreamOptions, decode_raw, text_and_status};
 use bgp_wire::Limit;
 use mrt::{MemSink, MemSource};
 use std::alloc::{AllocError, Global};
@@ -19,24 +20,42 @@ pub(crate) fn is_stream(alloc: Global, block: &str) -> io::Result<bool> {
     let [stream] = case.pieces.as_slice() else {
         return Err(malformed());
     };
-    Ok(are_lines(alloc, stream, case.status)?)
+    Ok(are_lines(alloc, options_of(case.form), stream, case.status)?)
+}
+
+/// How a stream is decoded whose lines have this form.
+fn options_of(form: LineForm) -> StreamOptions {
+    StreamOptions {
+        limit: Limit::Plain,
+        form,
+    }
 }
 
 /// Whether these are the lines, and the status, of a stream.
-fn are_lines(alloc: Global, stream: &Piece, status: u8) -> Result<bool, AllocError> {
+fn are_lines(
+    alloc: Global,
+    options: StreamOptions,
+    stream: &Piece,
+    status: u8,
+) -> Result<bool, AllocError> {
     Ok(
-        is_decoded(alloc, stream, status, NonZeroUsize::MAX)?
-            && is_decoded_in_pieces(alloc, stream, status)?
-            && is_decoded_in_memory(alloc, stream, status)?,
+        is_decoded(alloc, options, stream, status, NonZeroUsize::MAX)?
+            && is_decoded_in_pieces(alloc, options, stream, status)?
+            && is_decoded_in_memory(alloc, options, stream, status)?,
     )
 }
 
 /// Whether a stream is decoded so in pieces of one octet, of two, and so on.
-fn is_decoded_in_pieces(alloc: Global, stream: &Piece, status: u8) -> Result<bool, AllocError> {
+fn is_decoded_in_pieces(
+    alloc: Global,
+    options: StreamOptions,
+    stream: &Piece,
+    status: u8,
+) -> Result<bool, AllocError> {
     let mut all = true;
     for most in 1..=stream.octets.len().min(LONGEST_PIECE) {
         let most = NonZeroUsize::new(most).unwrap_or(NonZeroUsize::MIN);
-        all &= is_decoded(alloc, stream, status, most)?;
+        all &= is_decoded(alloc, options, stream, status, most)?;
     }
     Ok(all)
 }
@@ -45,6 +64,7 @@ fn is_decoded_in_pieces(alloc: Global, stream: &Piece, status: u8) -> Result<boo
 /// octets a call.
 fn is_decoded(
     alloc: Global,
+    options: StreamOptions,
     stream: &Piece,
     status: u8,
     most: NonZeroUsize,
@@ -52,13 +72,18 @@ fn is_decoded(
     let octets = Vec::from_slice(alloc, stream.octets.as_slice())?;
     let mut source = MemSource::new(octets).in_pieces_of(most);
     let mut sink = MemSink::new(alloc).in_pieces_of(most);
-    let answered = decode_raw(Limit::Plain, alloc, &mut source, &mut sink);
+    let answered = decode_raw(options, alloc, &mut source, &mut sink);
     Ok(sink.octets() == stream.text.as_bytes() && answered == status)
 }
 
 /// Whether a stream in memory is decoded so.
-fn is_decoded_in_memory(alloc: Global, stream: &Piece, status: u8) -> Result<bool, AllocError> {
+fn is_decoded_in_memory(
+    alloc: Global,
+    options: StreamOptions,
+    stream: &Piece,
+    status: u8,
+) -> Result<bool, AllocError> {
     let octets = Vec::from_slice(alloc, stream.octets.as_slice())?;
-    let (text, answered) = text_and_status(Limit::Plain, alloc, octets);
+    let (text, answered) = text_and_status(options, alloc, octets);
     Ok(text.as_slice() == stream.text.as_bytes() && answered == status)
 }

@@ -1,7 +1,8 @@
 //! The streams of real routers that lie in `streams/`.
 
 use crate::sessions::print_sessions;
-use bgp_tool::decode_raw;
+use bgp_lines::LineForm;
+use bgp_tool::{StreamOptions, decode_raw};
 use bgp_wire::Limit;
 use mrt::{FromRead, FromWrite};
 use std::rt::Files;
@@ -52,6 +53,10 @@ fn print_stream<R: Files + Print + AllocGlobal>(
     let path = format!(in rt.alloc(); "streams/{name}")?;
     let mut source = FromRead::new(fs::open(rt, path.as_str())?);
     let mut sink = FromWrite::new(io::writer(rt));
-    let status = decode_raw(limit, rt.alloc(), &mut source, &mut sink);
+    let options = StreamOptions {
+        limit,
+        form: LineForm::Plain,
+    };
+    let status = decode_raw(options, rt.alloc(), &mut source, &mut sink);
     println!(rt; "status {status}")
 }

@@ -29,7 +29,7 @@ enum Told {
 }
 
 /// The tables, and what their cases tell of.
-static TABLES: [(&str, Told); 18] = [
+static TABLES: [(&str, Told); 19] = [
     ("cases.txt", Told::Lines),
     ("rules.txt", Told::LinesAnywhere),
     ("cases-extended.txt", Told::Lines),
@@ -45,6 +45,7 @@ static TABLES: [(&str, Told); 18] = [
     ("updates-large.txt", Told::Outcomes),
     ("updates-by-hand.txt", Told::Outcomes),
     ("streams-by-hand.txt", Told::StreamLines),
+    ("names.txt", Told::StreamLines),
     ("opens-by-hand.txt", Told::Open),
     ("told.txt", Told::Command),
     ("breaks.txt", Told::Command),

@@ -14,7 +14,7 @@ use crate::devices::{Given, Paper};
 use bgp_compact::CompactTracker;
 use bgp_explain::{JudgedCapture, LeftOut, Report, judge_opened};
 use bgp_judge::{PlainTracker, Tracker};
-use bgp_tool::{Note, decode_opened, decode_opened_capture, passed_over};
+use bgp_tool::{Note, StreamOptions, decode_opened, decode_opened_capture, passed_over};
 use bgp_wire::Limit;
 use bgp_words::{Command, command_line};
 use mrt::{FromWrite, SkippedRecords};
@@ -99,9 +99,12 @@ fn ended<'a, T: Tracker<Global>>(
     let confederation = false;
     let left_out = LeftOut::nothing();
     let judged = match command {
-        Command::Decode { extended, .. } => {
-            let limit = Limit::with_extended(*extended);
-            let outcome = decode_opened(limit, alloc, file, opened, &mut sink);
+        Command::Decode { form, extended, .. } => {
+            let options = StreamOptions {
+                limit: Limit::with_extended(*extended),
+                form: *form,
+            };
+            let outcome = decode_opened(options, alloc, file, opened, &mut sink);
             JudgedCapture {
                 outcome,
                 confederation,

@@ -34,15 +34,44 @@ fn capture_of(alloc: Global, talk: &Talk, recording: &File<'_>) -> io::Result<Op
     }
 }
 
-/// The line without the packet that shows its record.
-fn without_packet(line: &str) -> &str {
-    if line.starts_with("> record ") || line.starts_with("> last received ") {
-        match line.rsplit_once(", packet ") {
-            Some((front, _)) => front,
-            None => line,
-        }
-    } else {
-        line
+/// The line without the place that it names: a packet of a recording, a record of its capture. A
+/// recording's first line names both, and keeps the record.
+fn around_place(line: &str) -> (&str, &str) {
+    if line.starts_with(">   record ") {
+        return without_packet(line);
+    }
+    if names_place(line) {
+        let (front, rest) = without_number(line, "record ");
+        return if rest.is_empty() {
+            without_number(line, "packet ")
+        } else {
+            (front, rest)
+        };
+    }
+    (line, "")
+}
+
+/// Whether a line of a reason names the place of a record in its middle.
+fn names_place(line: &str) -> bool {
+    line.starts_with(">   state: ")
+        || line.starts_with(">   last received: ")
+        || line.starts_with(">   note: it had sent ")
+}
+
+/// The line around the first number after such a word, if it has such a word.
+fn without_number<'a>(line: &'a str, word: &str) -> (&'a str, &'a str) {
+    match line.split_once(word) {
+        Some((front, rest)) => (front, rest.trim_start_matches(|c: char| c.is_ascii_digit())),
+        None => (line, ""),
+    }
+}
+
+/// The line around the packet that shows its record, if it names one.
+fn without_packet(line: &str) -> (&str, &str) {
+    let (front, rest) = line.split_once(", ").unwrap_or((line, ""));
+    match rest.strip_prefix("packet ") {
+        Some(after) => (front, after.split_once(", ").unwrap_or(("", after)).1),
+        None => (front, rest),
     }
 }
 
@@ -52,13 +81,23 @@ fn is_same_line(line: &str, known: &str) -> bool {
     if line.starts_with("> no at packet ") {
         return known.starts_with("> no at record ");
     }
-    known == without_packet(line)
+    let (front, rest) = around_place(line);
+    let (known_front, known_rest) = around_place(known);
+    front == known_front && rest == known_rest
+}
+
+/// Whether a line is of captures alone: what a capture passes over, that a message may be missing,
+/// and that a state stays, which no packet shows.
+fn is_of_captures(line: &str) -> bool {
+    line.starts_with(">   records of other ")
+        || line.starts_with(">   or: the same state once more, ")
+        || line.starts_with(">   note: a sent message may be missing ")
 }
 
 /// Whether a connection's answer is its capture's, but for packets, for what is told of a recording
-/// besides, and for what a capture skips: of a recording there is nothing.
+/// besides, and for what is of captures alone.
 fn is_same(answer: &str, known: &str) -> bool {
-    let mut known = known.lines().filter(|line| !line.starts_with("> skipped "));
+    let mut known = known.lines().filter(|line| !is_of_captures(line));
     for line in answer.lines().filter(|line| !line.starts_with("note ")) {
         match known.next() {
             Some(other) if is_same_line(line, other) => {}

@@ -40,16 +40,13 @@ fn around_number(line: &str) -> (&str, &str) {
     }
 }
 
-/// Whether a text is told as another is printed: in full; its beginning, where it is cut, or where
-/// any number but one is configured; or with more after it, of an end.
+/// Whether a text is told as another is printed: in full, or its beginning, where any AS number but
+/// one may be configured.
 fn is_alike(told: &str, printed: &str) -> bool {
-    if let Some((front, _)) = told.split_once(" ..") {
-        return printed.starts_with(front);
+    match told.split_once(", configured another") {
+        Some((front, _)) => printed.starts_with(front),
+        None => told == printed,
     }
-    if let Some((front, _)) = told.split_once(", configured another") {
-        return printed.starts_with(front);
-    }
-    told == printed || (told.starts_with("end ") && told.starts_with(printed))
 }
 
 /// Whether a line is told as another is printed, or but for the number of a record: where messages
@@ -63,17 +60,46 @@ fn is_told_so(told: &str, printed: &str, counts_alike: bool) -> bool {
     is_alike(told_front, front) && is_alike(told_rest, rest)
 }
 
-/// Whether what is printed is told: a verdict, and in the lines after it each possible end, or each
-/// line of the reason, and then only notes. No routes are compared.
-fn is_told(verdict: &str, details: &[&str], answer: &str, counts_alike: bool) -> bool {
-    let mut lines = answer.lines().filter_map(|line| line.strip_prefix("> "));
-    match lines.next() {
-        Some(line) if is_told_so(verdict, line, counts_alike) => {}
-        _ => return false,
+/// Whether a possible end is told like this: its state, and in Established the families that are
+/// disabled.
+fn is_end(told: &str, end: &str) -> bool {
+    let Some((state, disabled)) = end.split_once(" disabled ") else {
+        return false;
+    };
+    let Some(rest) = told.strip_prefix(state) else {
+        return false;
+    };
+    match disabled {
+        "v4" => rest.starts_with(" with IPv4 disabled, "),
+        "v6" => rest.starts_with(" with IPv6 disabled, "),
+        "v4,v6" => rest.starts_with(" with IPv4 and IPv6 disabled, "),
+        _ => rest.starts_with(", ") || rest.starts_with(" after "),
     }
-    let mut places = details.iter();
-    for line in lines {
-        if verdict == "yes" && !line.starts_with("end ") {
+}
+
+/// Whether each end that is printed after a yes is told, in the same order, and no other.
+fn are_ends(told: &str, answer: &str) -> bool {
+    let mut states = told.split(", or ");
+    for line in answer.lines() {
+        if let Some(end) = line.strip_prefix("> end ") {
+            match states.next() {
+                Some(state) if is_end(state, end) => {}
+                _ => return false,
+            }
+        }
+    }
+    states.next().is_none()
+}
+
+/// Whether the reason that is printed is told, and after it only notes. The record's line is in the
+/// verdict's; and the details begin with what no reason of `bgp judge` says.
+fn is_reason(details: &[&str], answer: &str, counts_alike: bool) -> bool {
+    let mut places = details.iter().filter(|told| !is_of_check(told));
+    for line in answer.lines() {
+        let Some(line) = line.strip_prefix(">   ") else {
+            continue;
+        };
+        if line.starts_with("record ") {
             continue;
         }
         match places.next() {
@@ -81,19 +107,62 @@ fn is_told(verdict: &str, details: &[&str], answer: &str, counts_alike: bool) ->
             _ => return false,
         }
     }
-    places.all(|told| told.starts_with("note "))
+    places.all(|told| told.starts_with("note: "))
+}
+
+/// Whether `bgp check` alone says this before a reason.
+fn is_of_check(told: &str) -> bool {
+    told.starts_with("in the order of bgp import, ") || told.starts_with("the lines below are for ")
+}
+
+/// Whether an answer of `bgp judge` begins with such a verdict.
+fn begins_so(verdict: &str, answer: &str, counts_alike: bool) -> bool {
+    match answer.lines().find_map(|line| line.strip_prefix("> ")) {
+        Some(line) => is_told_so(verdict, line, counts_alike),
+        None => false,
+    }
+}
+
+/// Whether what is printed is told: a verdict, and each possible end, or each line of the reason. No
+/// routes are compared.
+fn is_told(told: &str, details: &[&str], answer: &str, counts_alike: bool) -> bool {
+    if !begins_so(verdict_in(told), answer, counts_alike) {
+        return false;
+    }
+    match told.strip_prefix("yes: ") {
+        Some(end) => are_ends(states_in(end), answer),
+        None => is_reason(details, answer, counts_alike),
+    }
 }
 
 /// The verdict in the line of an end.
 fn verdict_in(line: &str) -> &str {
-    let front = match line.split_once(": ") {
+    if line.starts_with("yes: ") {
+        return "yes";
+    }
+    if line.starts_with("unfinished after ") {
+        return "unfinished";
+    }
+    match line.split_once(", ") {
         Some((front, _)) => front,
         None => line,
-    };
-    match front.split_once(", packet ") {
-        Some((front, _)) => front,
-        None => front,
     }
+}
+
+/// The states in the line of an end after its verdict: they stand after its AS number.
+fn states_in(end: &str) -> &str {
+    match end.split_once(" (AS ") {
+        Some((_, rest)) => match rest.split_once(": ") {
+            Some((_, states)) => states,
+            None => "",
+        },
+        None => "",
+    }
+}
+
+/// The words of `bgp judge` in a detail, if it has them.
+fn options_in(detail: &str) -> Option<&str> {
+    detail.strip_prefix("repeat: bgp ")?.strip_suffix(" FILE")
 }
 
 /// How many verdicts of an answer are told with the options of `bgp judge`: `None` where it gives
@@ -105,19 +174,16 @@ pub(crate) fn repeated(alloc: Global, file: &File<'_>, answer: &str) -> io::Resu
     for line in answer.lines() {
         let line = line.strip_prefix("> ").unwrap_or(line);
         let Some(detail) = line.strip_prefix("  ") else {
-            verdict = verdict_in(line);
+            verdict = line;
             details.clear();
             continue;
         };
-        if detail.starts_with("route ") {
-            continue;
-        }
-        if !detail.starts_with("judge ") {
+        let Some(words) = options_in(detail) else {
             details.push(detail)?;
             continue;
-        }
-        let counts_alike = file.is_recording() || !detail.contains(" --skip-refresh");
-        let printed = judged(alloc, file, detail)?;
+        };
+        let counts_alike = file.is_recording() || !words.contains(" --skip-refresh");
+        let printed = judged(alloc, file, words)?;
         if !is_told(verdict, &details, printed.as_str(), counts_alike) {
             return Ok(None);
         }

@@ -2,6 +2,7 @@
 
 use bgp_commands::words_status;
 use bgp_import::RecordingOptions;
+use bgp_lines::LineForm;
 use bgp_open::{ConfigParts, Families, RouteOffer};
 use bgp_prefix::{Address, RouteRefresh, Session};
 use bgp_talk::{Speaking, Start};
@@ -78,9 +79,13 @@ fn read(alloc: Global, words: &[&str]) -> Result<Spelled, AllocError> {
 /// Puts a command, each part after its name.
 fn put_command(text: &mut String, command: &Command<'_>) -> Result<(), AllocError> {
     match command {
-        Command::Decode { extended, file } => {
-            let extended = extended_text(*extended);
-            write!(text, "decode{extended} {file:?}")
+        Command::Decode {
+            form,
+            extended,
+            file,
+        } => {
+            let (form, extended) = (form_text(*form), extended_text(*extended));
+            write!(text, "decode{form}{extended} {file:?}")
         }
         Command::Capture {
             session,
@@ -205,6 +210,15 @@ fn refresh_text(refresh: RouteRefresh) -> &'static str {
         RouteRefresh::NotOffered => "false",
         RouteRefresh::Refused => "true",
         RouteRefresh::PassedOver => "skipped",
+    }
+}
+
+/// The words that say in which form lines are, each after a blank.
+fn form_text(form: LineForm) -> &'static str {
+    match form {
+        LineForm::Plain => "",
+        LineForm::Names { as2: false } => " names",
+        LineForm::Names { as2: true } => " names as2",
     }
 }
 

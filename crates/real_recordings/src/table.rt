@@ -10,7 +10,7 @@ use std::{fs, io};
 #[derive(Clone, Copy)]
 enum Kind {
     Cases,
-    /// Cases of which lines that are indented are left out.
+    /// Cases of which lines that are indented are left out, and the ends of those of verdicts.
     FirstColumn,
     CommandLines,
     Prefixes,

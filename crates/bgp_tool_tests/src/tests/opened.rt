@@ -9,7 +9,7 @@ fn is_decoding_refused(alloc: Global, size: usize) -> Result<bool, AllocError> {
     let heap = LocalHeap::new(alloc, size)?;
     let mut sink = FromWrite::new(Vec::new(alloc));
     let octets: &[u8] = &KEEPALIVE;
-    let outcome = decode_opened(Limit::Plain, &heap, "a", Ok(octets), &mut sink);
+    let outcome = decode_opened(PLAIN, &heap, "a", Ok(octets), &mut sink);
     let (file, octet) = ("a", 19);
     let is_told = outcome.note == Some(Note::OutOfMemory { file, octet });
     Ok(outcome.status == 4 && is_told && sink.into_inner().is_empty())

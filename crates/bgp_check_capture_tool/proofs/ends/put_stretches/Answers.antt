@@ -76,7 +76,7 @@ loop-rest-preserved g c =
     let is_end = subst (λ (o : Option ShownRecord). IsStretchEnd view before stretch o end) c.first_of-leaving.ensures c.in-Ok.ensures in
     let more = one_told law routes view records rest stretch behind before count (Stretch end)
     c.args.lines.now c.loop-rest.lines _ c.args.tally c.loop-rest.tally _ c.loop-rest.invariant.so_far c.first_stretch.ensures (sym len) is_end
-    c.put_told-tally.ensures.wrote c.put_told-tally.ensures.tallied in
+    (c.put_told-tally.ensures.wrote c.args.view.now.session.local) c.put_told-tally.ensures.tallied in
     let lengths = both_lengths rest stretch behind c.first_stretch.ensures in
     let one = length-map c.loop-rest.rest.now shown_of in
     let other = length-map c.first_stretch.result.1.now shown_of in

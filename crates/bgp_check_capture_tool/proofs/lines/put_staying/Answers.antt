@@ -6,4 +6,5 @@ pub returns : goal.returns
 unfolding unjudged_line
 returns g c =
     let law : Joins g.W.Sink = record { joined = g.met.W.Sink.joined } in
-    and_then law c.put.ensures (and_then law c.put_address.ensures (and_then law c.put_part.ensures (and_then law c.put-2.ensures (and_then law c.put-3.ensures c.put-4.ensures))))
+    let end = rw c.endpoint_of.ensures at c.put_part_end.ensures in
+    and_then law c.put.ensures (and_then law end (and_then law c.put-2.ensures (and_then law c.put-3.ensures c.put-4.ensures)))

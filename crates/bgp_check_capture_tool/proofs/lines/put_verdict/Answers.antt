@@ -4,17 +4,16 @@ use Rattle.bgp_check_capture_tool.proofs.lines.put_verdict.Goals as goal
 pub returns-in-Yes : goal.returns-in-Yes
 returns-in-Yes g c =
     let law : Joins g.W.Sink = record { joined = g.met.W.Sink.joined } in
-    let endings = rw c.as_slice.ensures.value at c.put_endings.ensures in
-    rw c.in-Yes.is (and_then law c.put.ensures (and_then law c.put_whose.ensures (and_then law endings (and_then law c.put_passed_over.ensures c.put_judge.ensures))))
+    let yes = rw c.as_slice.ensures.value at c.put_yes.ensures in
+    rw c.in-Yes.is (and_then law yes c.put_notes.ensures)
 
 pub returns-in-No : goal.returns-in-No
 returns-in-No g c =
     let law : Joins g.W.Sink = record { joined = g.met.W.Sink.joined } in
-    let no = rw c.unwrap_or.ensures at c.put_no.ensures in
-    rw c.in-No.is (and_then law no (and_then law c.put_whose-in-No.ensures (and_then law c.put_reason_in.ensures (and_then law c.put_passed_over-in-No.ensures c.put_judge-in-No.ensures))))
+    let no = rw c.deed_in.ensures at c.put_no.ensures in
+    rw c.in-No.is (and_then law no (and_then law c.put_lines_in.ensures c.put_notes-in-No.ensures))
 
 pub returns-in-Unfinished : goal.returns-in-Unfinished
 returns-in-Unfinished g c =
     let law : Joins g.W.Sink = record { joined = g.met.W.Sink.joined } in
-    rw c.in-Unfinished.is (and_then law c.put-in-Unfinished.ensures (and_then law c.put_whose-in-Unfinished.ensures
-    (and_then law c.put_reason_in-in-Unfinished.ensures (and_then law c.put_passed_over-in-Unfinished.ensures c.put_judge-in-Unfinished.ensures))))
+    rw c.in-Unfinished.is (and_then law c.put_unfinished.ensures (and_then law c.put_lines_in-in-Unfinished.ensures c.put_notes-in-Unfinished.ensures))

@@ -1,35 +1,42 @@
-use Rattle.std.proofs.Common.{◌≡◌, ◌∙◌, ◌++◌, List, ℕ, ap, map, subst, sym}
+use Rattle.std.proofs.Common.{◌≡◌, List, ℕ, map, subst, sym}
 use Rattle.bgp_prefix.specs.declared.session.Session.{Session}
-use Rattle.mrt.specs.MemSink.{SinkState}
 use Rattle.mrt.specs.Reader.{shown_of}
 use Rattle.bgp_judge.specs.Verdict.{VerdictValue, verdict_value}
 use Rattle.bgp_explain.specs.Places.{places_of}
-use Rattle.bgp_explain.specs.Records.{SaysOfRecords}
 use Rattle.bgp_explain.specs.Text.{CanBePutOf}
+use Rattle.bgp_check_text.specs.Reason.{SaysSo}
 use Rattle.bgp_check_text.specs.Shown.{session_at}
 use Rattle.bgp_check_text.proofs.AtRecord.{can_be_put}
 use Rattle.bgp_check_text.proofs.explained.text_of.Goals as goal
 
-pub write_explained-requires-clause-can : goal.write_explained-requires-clause-can
-write_explained-requires-clause-can g c =
+pub deed_of-requires-clause-can : goal.deed_of-requires-clause-can
+deed_of-requires-clause-can g c =
     let config = c.args.config.now in
     let records = map shown_of c.args.records.now in
     let explained = c.in_ok-explained.explained in
     subst (λ (s : Session). CanBePutOf s explained.reason) (sym c.session_at-session.ensures)
-    (can_be_put config.parts.session c.args.sent config records c.requires explained.verdict explained.reason c.in_ok-explained.ensures.explained.reason)
+    (can_be_put config.parts.session c.args.telling.now.sent config records c.requires explained.verdict explained.reason c.in_ok-explained.ensures.explained.reason)
 
-pub returns-in-Ok : goal.returns-in-Ok
-returns-in-Ok g c = λ verdict holds.
+pub lines_of-requires-clause-can : goal.lines_of-requires-clause-can
+lines_of-requires-clause-can g c =
     let config = c.args.config.now in
-    let session = config.parts.session in
-    let style = c.args.style.now in
-    let sent = c.args.sent in
-    let places = places_of c.args.places in
     let records = map shown_of c.args.records.now in
     let explained = c.in_ok-explained.explained in
-    let (more, says, took) = c.in-Ok.ensures records c.in_ok-explained.ensures.explained in
-    let written : more ≡ c.into_octets.result.items = sym (c.into_octets.ensures ∙ took.behind ∙ ap (λ (s : SinkState). s.octets ++ more) c.new-sink.ensures) in
-    let same = c.records_have_just_one_verdict.ensures.one config records (verdict_value explained.verdict) verdict c.in_ok-explained.ensures.explained.verdict holds in
-    let at = subst (λ (s : Session). SaysOfRecords config style s places records (verdict_value explained.verdict) more) c.session_at-session.ensures says in
-    subst (λ (text : List ℕ). SaysOfRecords config style (session_at session sent records verdict) places records verdict text) written
-    (subst (λ (v : VerdictValue). SaysOfRecords config style (session_at session sent records v) places records v more) same at)
+    subst (λ (s : Session). CanBePutOf s explained.reason) (sym c.session_at-session.ensures)
+    (can_be_put config.parts.session c.args.telling.now.sent config records c.requires explained.verdict explained.reason c.in_ok-explained.ensures.explained.reason)
+
+pub returns : goal.returns
+returns g c = λ verdict holds.
+    let config = c.args.config.now in
+    let session = config.parts.session in
+    let telling = c.args.telling.now in
+    let places = places_of telling.places in
+    let records = map shown_of c.args.records.now in
+    let explained = c.in_ok-explained.explained in
+    let are = c.in_ok-explained.ensures.explained in
+    let deed = c.in_ok-deed_of.field-0.items in
+    let lines = c.in_ok-lines_of.field-0.items in
+    let same = c.records_have_just_one_verdict.ensures.one config records (verdict_value explained.verdict) verdict are.verdict holds in
+    let at = subst (λ (s : Session). SaysSo config telling.style s telling.peer telling.another places records (verdict_value explained.verdict) deed lines)
+    c.session_at-session.ensures (c.in_ok-deed_of.ensures records are, c.in_ok-lines_of.ensures records are) in
+    subst (λ (v : VerdictValue). SaysSo config telling.style (session_at session telling.sent records v) telling.peer telling.another places records v deed lines) same at

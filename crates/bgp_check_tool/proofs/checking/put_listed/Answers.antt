@@ -14,7 +14,7 @@ returns-in-Connection-clause-puts g c = λ packets told.
       block = block_of session opening answer;
       told = is_told c.args.options.now packets c.args.last_packet c.args.packet c.in-Connection.addresses c.in-Connection.talk.now opening session answer
           (ap (λ (s : Selection). s.session) c.selection_of.ensures) is c.check_connection-told.ensures;
-      wrote = c.put_connection.ensures;
+      wrote = c.put_block.ensures;
       tallied = c.add_connection.ensures.tallied;
       added = c.add_connection.ensures.added;
     }
@@ -24,7 +24,7 @@ returns-in-Refused-clause-puts g c = λ packets told.
     let is = rw (c.in-Refused.is) at told in record {
       block = AllRefused c.in-Refused.addresses c.refused-refusal.result;
       told = record { ordered = is.ordered; fault = c.in-Refused.fault; refused = is.refused; is = c.refused-refusal.ensures };
-      wrote = c.put_session.ensures;
+      wrote = c.put_refused_between.ensures;
       tallied = c.add_refusal.ensures.tallied;
       added = c.add_refusal.ensures.added;
     }

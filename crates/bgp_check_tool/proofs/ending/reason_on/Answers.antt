@@ -1,7 +1,14 @@
-use Rattle.std.proofs.Common.{◌∙◌, List, ap, map, subst, sym}
+use Rattle.std.proofs.Common.{◌≡◌, ◌∙◌, true, ℕ, List, ap, map, subst, sym}
 use Rattle.bgp_prefix.specs.Shown.{ShownRecord}
 use Rattle.mrt.specs.Reader.{shown_of}
 use Rattle.bgp_check.specs.Answered.{IsAnswerTo, answer_value}
+use Rattle.bgp_check_text.specs.Reason.{IsReasonTo}
+use Rattle.bgp_explain.specs.Places.{shown_places}
+use Rattle.bgp_recording.specs.Captured.{records_of}
+use Rattle.bgp_recording.specs.declared.entry.Entry.{Entry}
+use Rattle.bgp_why.specs.declared.endpoint.Endpoint.{Endpoint}
+use Rattle.bgp_check_tool.specs.Place.{second_at}
+use Rattle.bgp_check_tool.specs.Told.{peer_end}
 use Rattle.bgp_check_tool.proofs.ending.reason_on.Goals as goal
 
 pub reason_of-requires : goal.reason_of-requires
@@ -10,3 +17,20 @@ reason_of-requires g c =
       session,
       subst (λ (rs : List ShownRecord). IsAnswerTo session rs (answer_value c.args.answer.now)) (sym (ap (map shown_of) c.as_slice-records.ensures.value ∙ c.requires.records)) c.requires.answers,
     )
+
+pub returns : goal.returns
+returns g c =
+    let session = c.args.viewed.now.session in
+    let answer = answer_value c.args.answer.now in
+    let limit = c.args.framings.sent.limit in
+    let entries = c.args.recording.now.entries.items in
+    let deed = c.in_ok-reason.reason.deed.items in
+    let lines = c.in_ok-reason.reason.lines.items in
+    let same : map shown_of c.as_slice-records.result.now ≡ records_of entries = ap (map shown_of) c.as_slice-records.ensures.value ∙ c.requires.records in
+    let raw = c.in_ok-reason.ensures session (subst (λ (rs : List ShownRecord). IsAnswerTo session rs answer) (sym same) c.requires.answers) in
+    let placed = subst (λ (es : List Entry). IsReasonTo session limit c.second_at-first.result true c.peer_end-peer.result (shown_places es) (map shown_of c.as_slice-records.result.now) answer deed lines)
+    c.as_slice-entries.ensures.value raw in
+    let timed = subst (λ (n : ℕ). IsReasonTo session limit n true c.peer_end-peer.result (shown_places entries) (map shown_of c.as_slice-records.result.now) answer deed lines)
+    (c.second_at-first.ensures ∙ ap (λ (es : List Entry). second_at es 0) c.as_slice-entries.ensures.value) placed in
+    let to_peer = subst (λ (p : Endpoint). IsReasonTo session limit (second_at entries 0) true p (shown_places entries) (map shown_of c.as_slice-records.result.now) answer deed lines) c.peer_end-peer.ensures timed in
+    subst (λ (rs : List ShownRecord). IsReasonTo session limit (second_at entries 0) true (peer_end session c.args.viewed.now.connection) (shown_places entries) rs answer deed lines) same to_peer

@@ -1,6 +1,5 @@
 use Rattle.std.proofs.Common.{Option, ap, subst, sym}
 use Rattle.std.proofs.lemmas.Result.{IfOk-weaker}
-use Rattle.bgp_judge.specs.Verdict.{verdict_value}
 use Rattle.bgp_check.specs.Answered.{AnswerValue, answer_value}
 use Rattle.bgp_check_text.specs.Settings.{are_told}
 use Rattle.bgp_recording.specs.Gathered.{IsClocked}
@@ -18,7 +17,7 @@ returns-in-Judged g c =
     (λ (judge : Option JudgeOptions). IsClocked viewed.connection
     → IsRecordedInOrder c.args.made.now.framings viewed.options.within viewed.connection made.entries.items made.received made.sent
     → AreOptionsFor viewed.options.within viewed.asked viewed.connection made.entries.items made.received made.sent
-    (are_told viewed.options.settings (verdict_value judged.verdict)) judged.under judge)
+    (are_told viewed.options.settings) judged.under judge)
     (λ (judge : Option JudgeOptions). IsClocked viewed.connection
     → IsRecordedInOrder c.args.made.now.framings viewed.options.within viewed.connection made.entries.items made.received made.sent
     → AreOptionsTo viewed.options.within viewed.asked viewed.connection made.entries.items made.received made.sent viewed.options.settings

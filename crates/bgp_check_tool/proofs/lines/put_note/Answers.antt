@@ -6,4 +6,4 @@ pub returns : goal.returns
 unfolding note_line
 returns g c =
     let law : Joins g.W.Sink = record { joined = g.met.W.Sink.joined } in
-    and_then law c.put.ensures (and_then law c.put_decimal.ensures c.put-2.ensures)
+    and_then law c.put.ensures (and_then law c.put-2.ensures (and_then law c.put_delayed.ensures c.put-3.ensures))

@@ -6,4 +6,5 @@ pub returns : goal.returns
 unfolding one_end_line
 returns g c =
     let law : Joins g.W.Sink = record { joined = g.met.W.Sink.joined } in
-    and_then law c.put.ensures (and_then law c.put_end.ensures c.put-2.ensures)
+    let named = rw c.named_end.ensures at c.put_endpoint.ensures in
+    and_then law c.put.ensures (and_then law named c.put-2.ensures)

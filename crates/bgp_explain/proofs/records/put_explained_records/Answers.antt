@@ -6,9 +6,9 @@ use Rattle.bgp_judge.specs.declared.verdict.Verdict.{Verdict}
 use Rattle.bgp_judge.specs.declared.verdict.Verdict.TheVariants.{No, Unfinished}
 use Rattle.bgp_judge.specs.Verdict as values
 use Rattle.bgp_tool.specs.declared.seen.Seen.{Seen}
-use Rattle.bgp_reason_text.specs.declared.style.Style.{Style}
+use Rattle.bgp_why.specs.declared.place.Place.{Place}
+use Rattle.bgp_why.specs.declared.style.Style.{Style}
 use Rattle.bgp_explain.specs.declared.explained.Reason.{Reason}
-use Rattle.bgp_explain.specs.declared.places.Place.{Place}
 use Rattle.bgp_explain.specs.declared.tally.Tally.{Tally}
 use Rattle.bgp_explain.specs.declared.details.Details.{Details}
 use Rattle.bgp_explain.specs.Details.{AreDetailsOf}
@@ -26,7 +26,7 @@ detailed_so config None None are some = some
 detailed_so config None (Some details) are some = absurd are
 detailed_so config (Some reason) details are some = refl
 
-module _ {X : Type 0} (Y : Type 0) (config : Config) (style : Style) (session : Session) (places : ℕ → Place) (records : List ShownRecord) where
+module _ {X : Type 0} (Y : Type 0) (config : Config) (style : Style) (session : Session) (places : ℕ → ℕ → Place) (records : List ShownRecord) where
   after_no : (count : ℕ) (why : Option (Reason X)) (detailed : Bool) (more : List ℕ) → HasReason {X = Y} config records (No count) why → (IsTrue detailed → IsTrue (is_some why))
       → IsMoreBy config style session places why detailed more → SaysWhere config style session places records detailed (values.No count) more
   after_no count None true more has some is = absurd (let k : false ≡ true = some refl in cc)

@@ -6,4 +6,4 @@ pub returns : goal.returns
 unfolding counts_text
 returns g c =
     let law : Joins g.W.Sink = record { joined = g.met.W.Sink.joined } in
-    and_then law c.put_decimal.ensures (and_then law c.put.ensures (and_then law c.put_decimal-2.ensures (and_then law c.put-2.ensures (and_then law c.put_decimal-3.ensures c.put-3.ensures))))
+    and_then law c.put.ensures (and_then law c.put_decimal.ensures (and_then law c.put-2.ensures (and_then law c.put_decimal-2.ensures (and_then law c.put-3.ensures c.put_decimal-3.ensures))))

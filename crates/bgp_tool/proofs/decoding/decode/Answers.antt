@@ -4,6 +4,7 @@ use Rattle.bgp_wire.specs.declared.header.Limit.{Limit}
 use Rattle.bgp_wire.specs.Framing.{IsShort}
 use Rattle.bgp_wire.specs.Held.{Held, after_feed}
 use Rattle.bgp_tool.specs.declared.decoding.End.TheVariants as ends
+use Rattle.bgp_lines.specs.declared.form.LineForm.{LineForm}
 use Rattle.bgp_tool.specs.Decoding.{IsLastLine, IsDecoded}
 use Rattle.bgp_tool.specs.Ending.{AreLines}
 use Rattle.bgp_tool.proofs.LinesOfFrames.{no_lines, lines_fed, more_lines}
@@ -35,17 +36,23 @@ total_of stream piece given count before more = omega (arith, length-append stre
 pub reads-init : goal.reads-init
 unfolding nothing_but
 reads-init g c =
+    let options = c.args.options in
     let octets : c.new-frames.result.octets ≡ [] = ap (λ (h : Held). h.octets) c.new-frames.ensures in
     record {
-      state = c.new-frames.ensures ∙ ap (λ (o : List ℕ). nothing_but c.args.limit o) (sym octets);
+      state = c.new-frames.ensures ∙ ap (λ (o : List ℕ). nothing_but options.limit o) (sym octets);
       short = inl (omega (arith, ap length octets));
+      form = c.new-teller.ensures.form;
       failures = refl;
       so_far = (
         [],
         [],
         g.met.R.Source.nothing c.args.source.now,
         refl,
-        subst (λ (o : List ℕ). AreLines c.args.limit [] o []) (sym octets) (no_lines c.args.limit []),
+        (
+          [],
+          subst (λ (o : List ℕ). AreLines options.limit options.form [] [] [] o []) (sym octets) (no_lines options.limit options.form [] []),
+          c.new-teller.ensures.knows,
+        ),
         nothing_yet g.W.Sink g.met.W.Sink.nothing c.args.lines.now.outlet c.args.lines.now.held.items,
       );
     }
@@ -60,7 +67,7 @@ returns-in-Err-clause-reaches g c =
       text = now.1;
       gave = now.2;
       wrote = and_nothing law now.5 c.in-Err.ensures.writes;
-      has_text = beginning now.0 c.reads.frames.octets now.1 now.4;
+      has_text = beginning c.args.options now.4.0 now.0 c.reads.frames.octets now.1 now.4.1;
       handed_over = c.in-Err.ensures.none;
       told = c.in-Err.ensures.err;
     }
@@ -75,7 +82,7 @@ returns-in-Err-read-clause-reaches g c =
       text = now.1;
       gave = rw append-nil at (g.met.R.Source.joined c.args.source.now c.reads.source c.read.new.self now.0 [] now.2 c.in-Err-read.ensures.err);
       wrote = and_nothing law now.5 c.in-Ok.ensures.writes;
-      has_text = so_far now.0 c.reads.frames.octets now.1 now.4 c.reads.invariant.short;
+      has_text = so_far c.args.options now.4.0 now.0 c.reads.frames.octets now.1 now.4.1 c.reads.invariant.short;
       handed_over = c.in-Ok.ensures.none;
       told = c.in-Ok.ensures.ok;
     }
@@ -87,10 +94,10 @@ returns-then-count-eq0-clause-reaches g c =
     let now = c.reads.invariant.so_far in
     let nothing = rw c.if-count-eq0.true at c.in-Ok-read.ensures.ok in
     let gave = rw append-nil at (g.met.R.Source.joined c.args.source.now c.reads.source c.read.new.self now.0 [] now.2 nothing) in
-    ended c.args.limit law g.R.Source.gives c.args.source.now c.read.new.self c.args.lines.now c.hand_over.new.self c.put_rest-end.new.lines
-    c.hand_over-then-count-eq0.new.lines now.0 c.reads.frames.octets now.1 gave now.4 c.reads.invariant.short
-    (and_nothing law now.5 c.in-Ok.ensures.writes) _ c.len.ensures c.put_rest-end.result c.hand_over-then-count-eq0.result
-    c.put_rest-end.ensures c.hand_over-then-count-eq0.ensures
+    let puts = rw (c.held.ensures, c.reads.invariant.form) at c.put_rest-end.ensures in
+    ended c.args.options law g.R.Source.gives c.args.source.now c.read.new.self c.args.lines.now c.hand_over.new.self c.put_rest-end.new.lines
+    c.hand_over-then-count-eq0.new.lines now.4.0 now.0 c.reads.frames.octets now.1 gave now.4.1 c.reads.invariant.short
+    (and_nothing law now.5 c.in-Ok.ensures.writes) c.put_rest-end.result c.hand_over-then-count-eq0.result puts c.hand_over-then-count-eq0.ensures
 
 -- memory was refused
 pub returns-in-Err-feed-clause-reaches : goal.returns-in-Err-feed-clause-reaches
@@ -103,7 +110,8 @@ returns-in-Err-feed-clause-reaches g c =
       text = now.1;
       gave = g.met.R.Source.joined c.args.source.now c.reads.source c.read.new.self now.0 piece now.2 c.in-Ok-read.ensures.ok;
       wrote = and_nothing law now.5 c.in-Ok.ensures.writes;
-      has_text = beginning (now.0 ++ piece) (c.reads.frames.octets ++ piece) now.1 (lines_fed now.0 c.reads.frames.octets now.1 piece now.4);
+      has_text = beginning c.args.options now.4.0 (now.0 ++ piece) (c.reads.frames.octets ++ piece) now.1
+          (lines_fed [] now.4.0 now.0 c.reads.frames.octets now.1 piece now.4.1);
       handed_over = c.in-Ok.ensures.none;
       told = c.in-Ok.ensures.ok;
     }
@@ -112,46 +120,61 @@ returns-in-Err-feed-clause-reaches g c =
 pub returns-then-put_frames-clause-reaches : goal.returns-then-put_frames-clause-reaches
 returns-then-put_frames-clause-reaches g c =
     let law : Joins g.W.Sink = record { joined = g.met.W.Sink.joined } in
+    let options = c.args.options in
     let now = c.reads.invariant.so_far in
+    let form = c.reads.invariant.form in
     let held = c.reads.frames.octets in
     let piece = take c.in-Ok-read.count c.read.new.buffer in
     let stream = now.0 ++ piece in
-    let fed = c.in-Ok-feed.ensures.ok ∙ fed_by c.args.limit c.reads.frames piece c.reads.invariant.state in
+    let fed = c.in-Ok-feed.ensures.ok ∙ fed_by options.limit c.reads.frames piece c.reads.invariant.state in
     let count = total_of now.0 piece c.reads.given c.in-Ok-read.count now.3 (length-take-le c.in-Ok-read.count c.read.new.buffer c.in-Ok-read.ensures.bound) in
-    let puts = c.if-put_frames.ensures in
-    let rest = puts.0 in
-    let new_lines = by_fields (λ (l : Limit) (o : List ℕ). AreLines l o rest puts.1) _ c.args.limit (held ++ piece) fed puts.3 in
-    let all = more_lines stream (held ++ piece) rest now.1 puts.1 (lines_fed now.0 held now.1 piece now.4) new_lines in
-    let last = subst (λ (n : ℕ). IsLastLine c.args.limit (n - length rest) rest puts.2 3) count
-    (by_fields (λ (l : Limit) (o : List ℕ). IsLastLine l ((c.reads.given + c.in-Ok-read.count) - length rest) rest puts.2 3) _ c.args.limit (held ++ piece) fed puts.4) in
-    finished c.args.limit law g.R.Source.gives c.args.source.now c.read.new.self c.args.lines.now c.put_frames.new.lines
-    c.hand_over-then-put_frames.new.lines stream (now.1 ++ (puts.1 ++ puts.2)) ends.AtFault c.hand_over-then-put_frames.result
+    let puts = c.if-put_frames.ensures now.4.0 now.4.2 in
+    let rest = puts.1 in
+    let new_lines = subst (λ (f : LineForm). AreLines options.limit f now.4.0 puts.0 (held ++ piece) rest puts.2) form
+    (by_fields (λ (l : Limit) (o : List ℕ). AreLines l c.reads.teller.form now.4.0 puts.0 o rest puts.2) _ options.limit (held ++ piece) fed puts.4)
+    in
+    let all = more_lines [] now.4.0 puts.0 stream (held ++ piece) rest now.1 puts.2 (lines_fed [] now.4.0 now.0 held now.1 piece now.4.1) new_lines in
+    let last = subst (λ (n : ℕ). IsLastLine options.limit options.form (n - length rest) rest puts.3 3) count
+    (subst (λ (f : LineForm). IsLastLine options.limit f ((c.reads.given + c.in-Ok-read.count) - length rest) rest puts.3 3) form
+    (by_fields (λ (l : Limit) (o : List ℕ). IsLastLine l c.reads.teller.form ((c.reads.given + c.in-Ok-read.count) - length rest) rest puts.3 3) _ options.limit (held ++ piece) fed puts.5))
+    in
+    finished options law g.R.Source.gives c.args.source.now c.read.new.self c.args.lines.now c.put_frames.new.lines
+    c.hand_over-then-put_frames.new.lines stream (now.1 ++ (puts.2 ++ puts.3)) ends.AtFault c.hand_over-then-put_frames.result
     (g.met.R.Source.joined c.args.source.now c.reads.source c.read.new.self now.0 piece now.2 c.in-Ok-read.ensures.ok)
-    (and_then law (and_nothing law now.5 c.in-Ok.ensures.writes) puts.5)
-    (subst (λ (text : List ℕ). IsDecoded c.args.limit stream text 3) (append_assoc now.1 puts.1 puts.2)
-    (decoded stream rest (now.1 ++ puts.1) puts.2 3 all last))
+    (and_then law (and_nothing law now.5 c.in-Ok.ensures.writes) puts.6)
+    (subst (λ (text : List ℕ). IsDecoded options stream text 3) (append_assoc now.1 puts.2 puts.3)
+    (decoded options (now.4.0 ++ puts.0) stream rest (now.1 ++ puts.2) puts.3 3 all last))
     refl c.hand_over-then-put_frames.ensures
 
 pub reads-preserved : goal.reads-preserved
 reads-preserved g c =
     let law : Joins g.W.Sink = record { joined = g.met.W.Sink.joined } in
+    let options = c.args.options in
     let now = c.reads.invariant.so_far in
+    let form = c.reads.invariant.form in
     let held = c.reads.frames.octets in
     let piece = take c.in-Ok-read.count c.read.new.buffer in
-    let fed = c.in-Ok-feed.ensures.ok ∙ fed_by c.args.limit c.reads.frames piece c.reads.invariant.state in
-    let puts = c.if-put_frames.ensures in
+    let fed = c.in-Ok-feed.ensures.ok ∙ fed_by options.limit c.reads.frames piece c.reads.invariant.state in
+    let puts = c.if-put_frames.ensures now.4.0 now.4.2 in
     let left = c.put_frames.new.frames.octets in
-    let new_lines = by_fields (λ (l : Limit) (o : List ℕ). AreLines l o left puts.0) _ c.args.limit (held ++ piece) fed puts.1 in
+    let new_lines = subst (λ (f : LineForm). AreLines options.limit f now.4.0 puts.0 (held ++ piece) left puts.1) form
+    (by_fields (λ (l : Limit) (o : List ℕ). AreLines l c.reads.teller.form now.4.0 puts.0 o left puts.1) _ options.limit (held ++ piece) fed puts.2)
+    in
     record {
-      state = puts.3 ∙ ap (λ (h : Held). record h { octets = left }) fed;
-      short = subst (λ (l : Limit). IsShort l left) (ap (λ (h : Held). h.limit) fed) puts.2;
+      state = puts.4 ∙ ap (λ (h : Held). record h { octets = left }) fed;
+      short = subst (λ (l : Limit). IsShort l left) (ap (λ (h : Held). h.limit) fed) puts.3;
+      form = puts.5 ∙ form;
       failures = c.in-Ok-read.ensures.failures ∙ c.reads.invariant.failures;
       so_far = (
         now.0 ++ piece,
-        now.1 ++ puts.0,
+        now.1 ++ puts.1,
         g.met.R.Source.joined c.args.source.now c.reads.source c.read.new.self now.0 piece now.2 c.in-Ok-read.ensures.ok,
         total_of now.0 piece c.reads.given c.in-Ok-read.count now.3 (length-take-le c.in-Ok-read.count c.read.new.buffer c.in-Ok-read.ensures.bound),
-        more_lines (now.0 ++ piece) (held ++ piece) left now.1 puts.0 (lines_fed now.0 held now.1 piece now.4) new_lines,
-        and_then law (and_nothing law now.5 c.in-Ok.ensures.writes) puts.4,
+        (
+          now.4.0 ++ puts.0,
+          more_lines [] now.4.0 puts.0 (now.0 ++ piece) (held ++ piece) left now.1 puts.1 (lines_fed [] now.4.0 now.0 held now.1 piece now.4.1) new_lines,
+          puts.6,
+        ),
+        and_then law (and_nothing law now.5 c.in-Ok.ensures.writes) puts.7,
       );
     }

@@ -1,6 +1,8 @@
-use Rattle.std.proofs.Common.{◌≡◌, ◌-◌, ◌^◌, ℕ, List, length, false}
+use Rattle.std.proofs.Common.{◌≡◌, ◌-◌, ◌^◌, ℕ, List, [], length, false}
 use Rattle.bgp_wire.specs.Framing.{IsShort}
 use Rattle.bgp_text.specs.Lines.{Writes}
+use Rattle.bgp_lines.specs.Telling.{Knows}
+use Rattle.bgp_tool.specs.Decoding.{stream_before}
 use Rattle.bgp_tool.specs.Ending.{AreLines}
 use Rattle.bgp_tool.proofs.decoding.decode.Given as goal
 
@@ -8,11 +10,13 @@ use Rattle.bgp_tool.proofs.decoding.decode.Given as goal
 abbrev pub invariant-reads : goal.invariant-reads
 invariant-reads g l =
     record {
-      state : l.frames ≡ record { limit = l.fn.limit; octets = l.frames.octets; is_closed = false };
-      short : IsShort l.fn.limit l.frames.octets;
+      state : l.frames ≡ record { limit = l.fn.options.limit; octets = l.frames.octets; is_closed = false };
+      short : IsShort l.fn.options.limit l.frames.octets;
+      form : l.teller.form ≡ l.fn.options.form;
       failures : g.R.Source.failures l.source ≡ g.R.Source.failures l.fn.source;
       so_far : (stream text : List ℕ) × g.R.Source.gives l.fn.source l.source stream × (l.given ≡ length stream)
-          × AreLines l.fn.limit stream l.frames.octets text × Writes l.fn.lines l.lines text;
+          × ((frames : List (List ℕ)) × AreLines l.fn.options.limit l.fn.options.form [] frames stream l.frames.octets text
+          × Knows l.teller (stream_before frames)) × Writes l.fn.lines l.lines text;
     }
 
 abbrev pub decreases-reads : goal.decreases-reads

@@ -1,16 +1,18 @@
-use Rattle.std.proofs.Common.{◌≡◌, ◌∙◌, ◌++◌, ◌-◌, [], List, ℕ, length, drop, refl, sym, ap, subst, inr, arith}
-use Rattle.bgp_open.specs.RouteForm.{plain_form}
+use Rattle.std.proofs.Common.{◌≡◌, ◌∙◌, ◌+◌, ◌++◌, ◌∷◌, ◌-◌, [], List, ℕ, length, drop, refl, sym, ap, subst, inr, arith, append-nil, append_assoc, length-append}
 use Rattle.bgp_wire.specs.declared.header.Limit.{Limit}
 use Rattle.bgp_wire.specs.Header.{header_of}
 use Rattle.bgp_wire.specs.Verdict.{AreFaults}
 use Rattle.bgp_wire.specs.Framing.{IsFrame, IsShort, IsFaulty}
 use Rattle.bgp_wire.specs.Held.{Held}
-use Rattle.bgp_text.specs.Text.{line_of, fault_line}
-use Rattle.bgp_tool.specs.Decoding.{IsLastLine}
-use Rattle.bgp_tool.specs.Ending.{AreLines}
-use Rattle.bgp_tool.proofs.LinesOfFrames.{no_lines, one_line_more}
 use Rattle.bgp_text.proofs.EachMessage.{each_message}
 use Rattle.bgp_text.proofs.Pieces.{Joins, nothing_yet, and_then}
+use Rattle.bgp_values.specs.declared.opens.Direction.TheVariants.{Received}
+use Rattle.bgp_lines.specs.Form.{IsFrameLine, fault_line_in}
+use Rattle.bgp_lines.specs.Telling.{Knows}
+use Rattle.bgp_lines.specs.declared.form.LineForm.{LineForm}
+use Rattle.bgp_tool.specs.Decoding.{IsLastLine, stream_before}
+use Rattle.bgp_tool.specs.Ending.{AreLines}
+use Rattle.bgp_tool.proofs.LinesOfFrames.{no_lines, one_line_more}
 use Rattle.bgp_tool.proofs.decoding.put_frames.Goals as goal
 
 -- octets that are taken away leave the rest of the state
@@ -24,15 +26,15 @@ limit_is : (x y : Held) → y ≡ record x { octets = y.octets } → y.limit ≡
 limit_is x y h = ap (λ (v : Held). v.limit) h
 
 -- a header with faults is the last line, by the offset at which it stands
-fault_is_last : (offset : ℕ) (limit own : Limit) (rest header : List ℕ) (faults : _) → limit ≡ own → IsFaulty limit rest
-    → header ≡ header_of rest → AreFaults limit header faults → IsLastLine own offset rest (fault_line offset faults) 3
-fault_is_last offset limit own rest header faults same faulty front are = inr (inr (
+fault_is_last : (form : LineForm) (offset : ℕ) (limit own : Limit) (rest header : List ℕ) (faults : _) → limit ≡ own → IsFaulty limit rest
+    → header ≡ header_of rest → AreFaults limit header faults → IsLastLine own form offset rest (fault_line_in form offset faults header) 3
+fault_is_last form offset limit own rest header faults same faulty front are = inr (inr (
   subst (λ (l : Limit). IsFaulty l rest) same faulty,
   refl,
   (
     faults,
     subst (λ (l : Limit). AreFaults l (header_of rest) faults) same (subst (λ (h : List ℕ). AreFaults limit h faults) front are),
-    refl,
+    ap (fault_line_in form offset faults) front,
   ),
 ))
 
@@ -41,74 +43,97 @@ pub loop-kind-init : goal.loop-kind-init
 loop-kind-init g c =
     record {
       state = refl;
-      written = (
+      fewer = omega arith;
+      form = refl;
+      written = λ before knows. (
         [],
-        no_lines c.args.frames.now.limit c.args.frames.now.octets,
+        [],
+        no_lines c.args.frames.now.limit c.args.teller.now.form before c.args.frames.now.octets,
+        subst (λ (b : List (List ℕ)). Knows c.args.teller.now (stream_before b)) (sym (append-nil before)) knows,
         nothing_yet g.W.Sink g.met.W.Sink.nothing c.args.lines.now.outlet c.args.lines.now.held.items,
       );
     }
 
 -- each frame says something
-pub put_message-requires-clause-says : goal.put_message-requires-clause-says
-put_message-requires-clause-says g c =
+pub put_frame-requires-clause-says : goal.put_frame-requires-clause-says
+put_frame-requires-clause-says g c form =
     let limit = limit_is c.args.frames.now c.loop-kind.frames c.loop-kind.invariant.state in
-    each_message plain_form c.args.frames.now.limit c.in-Frame.frame.now (subst (λ (l : Limit). IsFrame l c.in-Frame.frame.now) limit c.in-Frame.ensures.first.0)
+    each_message form c.args.frames.now.limit c.in-Frame.frame.now (subst (λ (l : Limit). IsFrame l c.in-Frame.frame.now) limit c.in-Frame.ensures.first.0)
 
 pub loop-kind-preserved : goal.loop-kind-preserved
 loop-kind-preserved g c =
     let law : Joins g.W.Sink = record { joined = g.met.W.Sink.joined } in
     let now = rw c.in-Frame.is at c.next.follows.holds-at-none in
     let state = c.loop-kind.invariant.state in
-    let so_far = c.loop-kind.invariant.written in
+    let own = c.args.teller.now.form in
     let frame = c.in-Frame.frame.now in
     let behind = drop (length frame) c.loop-kind.frames.octets in
     let limit = limit_is c.args.frames.now c.loop-kind.frames state in
     let whole = subst (λ (l : Limit). IsFrame l frame) limit c.in-Frame.ensures.first.0 in
-    let said = each_message plain_form c.args.frames.now.limit frame whole in
-    let lines = one_line_more c.args.frames.now.octets c.loop-kind.frames.octets behind so_far.0 frame said.0 so_far.1 whole c.in-Frame.ensures.first.2 said.1 in
+    let same : c.next.follows.lender-at-none.octets ≡ behind = ap (λ (v : Held). v.octets) now in
+    let count : length c.next.follows.lender-at-none.octets ≡ length behind = ap length same in
+    let split : length c.loop-kind.frames.octets ≡ length frame + length behind =
+    ap length c.in-Frame.ensures.first.2 ∙ length-append frame behind
+    in
     record {
       state = kept c.args.frames.now c.loop-kind.frames c.next.follows.lender-at-none behind state now;
-      written = (
-        so_far.0 ++ line_of said.0,
-        subst (λ (o : List ℕ). AreLines c.args.frames.now.limit c.args.frames.now.octets o (so_far.0 ++ line_of said.0)) (sym (ap (λ (v : Held). v.octets) now)) lines,
-        and_then law so_far.2 (c.put_message.ensures said.0 said.1),
-      );
+      fewer = omega (arith, count, split, c.loop-kind.invariant.fewer);
+      form = c.put_frame.ensures.form ∙ c.loop-kind.invariant.form;
+      written = λ before knows.
+          let so_far = c.loop-kind.invariant.written before knows in
+          let line = c.put_frame.ensures.line (stream_before (before ++ so_far.0)) so_far.3 in
+          let told = subst (λ (f : LineForm). IsFrameLine f (stream_before (before ++ so_far.0)) Received frame line.0) c.loop-kind.invariant.form line.1 in
+          let lines = one_line_more before so_far.0 c.args.frames.now.octets c.loop-kind.frames.octets behind so_far.1 frame line.0 so_far.2 whole c.in-Frame.ensures.first.2 told in (
+            so_far.0 ++ frame ∷ [],
+            so_far.1 ++ line.0,
+            subst (λ (o : List ℕ). AreLines c.args.frames.now.limit own before (so_far.0 ++ frame ∷ []) c.args.frames.now.octets o (so_far.1 ++ line.0)) (sym same) lines,
+            subst (λ (b : List (List ℕ)). Knows c.put_frame.new.self (stream_before b)) (append_assoc before so_far.0 (frame ∷ []))
+                (c.put_frame.ensures.knows (stream_before (before ++ so_far.0)) so_far.3),
+            and_then law so_far.4 line.2,
+          );
     }
 
 pub returns-in-More : goal.returns-in-More
-returns-in-More g c =
+returns-in-More g c before knows =
     let now = rw c.in-More.is at c.next.follows.holds-at-none in
     let state = c.loop-kind.invariant.state in
-    let so_far = c.loop-kind.invariant.written in
+    let own = c.args.teller.now.form in
+    let so_far = c.loop-kind.invariant.written before knows in
     let limit = limit_is c.args.frames.now c.loop-kind.frames state in
     let same : c.next.follows.lender-at-none.octets ≡ c.loop-kind.frames.octets = ap (λ (v : Held). v.octets) now in
     let short = subst (λ (l : Limit). IsShort l c.loop-kind.frames.octets) limit c.in-More.ensures.first in (
       so_far.0,
-      subst (λ (o : List ℕ). AreLines c.args.frames.now.limit c.args.frames.now.octets o so_far.0) (sym same) so_far.1,
+      so_far.1,
+      subst (λ (o : List ℕ). AreLines c.args.frames.now.limit own before so_far.0 c.args.frames.now.octets o so_far.1) (sym same) so_far.2,
       subst (λ (o : List ℕ). IsShort c.args.frames.now.limit o) (sym same) short,
       kept c.args.frames.now c.loop-kind.frames c.next.follows.lender-at-none c.loop-kind.frames.octets state now,
-      so_far.2,
+      c.loop-kind.invariant.form,
+      so_far.3,
+      so_far.4,
     )
 
 pub returns-in-Fault : goal.returns-in-Fault
-returns-in-Fault g c =
+returns-in-Fault g c before knows =
     let law : Joins g.W.Sink = record { joined = g.met.W.Sink.joined } in
     let now = rw c.in-Fault.is at c.next.follows.holds-at-none in
-    let so_far = c.loop-kind.invariant.written in
+    let own = c.args.teller.now.form in
+    let so_far = c.loop-kind.invariant.written before knows in
     let rest = c.loop-kind.frames.octets in
     let given = c.args.given in
     let held = rw now at c.len.ensures in
     let offset : c.offset_of_held-offset.result ≡ given - length rest = omega arith in
-    let last = fault_line c.offset_of_held-offset.result c.in-Fault.faults in
+    let header = c.in-Fault.header.now in
+    let last = fault_line_in own c.offset_of_held-offset.result c.in-Fault.faults header in
     let limit = limit_is c.args.frames.now c.loop-kind.frames c.loop-kind.invariant.state in
     let front = c.in-Fault.ensures.first in
-    let is_last = subst (λ (n : ℕ). IsLastLine c.args.frames.now.limit n rest last 3) offset
-    (fault_is_last c.offset_of_held-offset.result _ c.args.frames.now.limit rest c.in-Fault.field-1.now c.in-Fault.faults limit front.0 front.1 front.2)
+    let is_last = subst (λ (n : ℕ). IsLastLine c.args.frames.now.limit own n rest last 3) offset
+    (fault_is_last own c.offset_of_held-offset.result _ c.args.frames.now.limit rest header c.in-Fault.faults limit front.0 front.1 front.2)
     in (
-      rest,
       so_far.0,
-      last,
+      rest,
       so_far.1,
+      last,
+      so_far.2,
       is_last,
-      and_then law {ys = last} so_far.2 c.put_fault.ensures,
+      and_then law {ys = last} so_far.4 (rw c.loop-kind.invariant.form at c.put_fault.ensures),
     )

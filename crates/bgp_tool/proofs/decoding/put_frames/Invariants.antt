@@ -1,5 +1,7 @@
-use Rattle.std.proofs.Common.{◌≡◌, List, ℕ, length}
+use Rattle.std.proofs.Common.{◌≡◌, ◌≤◌, ◌++◌, List, ℕ, length}
 use Rattle.bgp_text.specs.Lines.{Writes}
+use Rattle.bgp_lines.specs.Telling.{Knows}
+use Rattle.bgp_tool.specs.Decoding.{stream_before}
 use Rattle.bgp_tool.specs.Ending.{AreLines}
 use Rattle.bgp_tool.proofs.decoding.put_frames.Given as goal
 
@@ -8,7 +10,12 @@ abbrev pub invariant-loop-kind : goal.invariant-loop-kind
 invariant-loop-kind g l =
     record {
       state : l.frames ≡ record l.fn.frames { octets = l.frames.octets };
-      written : (text : List ℕ) × AreLines l.fn.frames.limit l.fn.frames.octets l.frames.octets text × Writes l.fn.lines l.lines text;
+      fewer : length l.frames.octets ≤ length l.fn.frames.octets;
+      form : l.teller.form ≡ l.fn.teller.form;
+      written : (before : List (List ℕ)) → Knows l.fn.teller (stream_before before)
+          → (frames : List (List ℕ)) × (text : List ℕ)
+          × AreLines l.fn.frames.limit l.fn.teller.form before frames l.fn.frames.octets l.frames.octets text
+          × Knows l.teller (stream_before (before ++ frames)) × Writes l.fn.lines l.lines text;
     }
 
 abbrev pub decreases-loop-kind : goal.decreases-loop-kind

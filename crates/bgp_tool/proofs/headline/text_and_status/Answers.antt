@@ -21,7 +21,7 @@ returns-clause-text g c =
     )
     in
     λ less.
-    subst (λ (text : List ℕ). IsDecoded c.args.limit c.args.stream.items text c.decode_raw-status.result) written
+    subst (λ (text : List ℕ). IsDecoded c.args.options c.args.stream.items text c.decode_raw-status.result) written
     (whole_stream c.args.stream.items decoded.given left decoded.written c.decode_raw-status.result is
     (λ end. decoded.gave.ended calm.0 (c.decode_raw-status.ensures.ended end)) (decoded.whole less))
 
@@ -38,4 +38,4 @@ returns-clause-begun g c =
     ∙ ap (λ (s : SinkState). s.octets ++ decoded.written) c.new-sink.ensures
     )
     in
-    (decoded.given, left, is, subst (IsBeginning c.args.limit decoded.given) written decoded.begun)
+    (decoded.given, left, is, subst (IsBeginning c.args.options decoded.given) written decoded.begun)

@@ -7,7 +7,8 @@ use Rattle.bgp_words.proofs.decode.decode_words.Goals as goal
 
 abbrev words : App → App
 words decode =
-    with_rule (with_rule (with_rule (with_rule (with_rule decode (file_word (codes "FILE")))
+    with_rule (with_rule (with_rule (with_rule (with_rule (with_rule (with_rule decode
+    (file_word (codes "FILE"))) (flag_word (codes "names"))) (flag_word (codes "as2")))
     (flag_word (codes "mrt"))) (option_word (codes "peer"))) (option_word (codes "local")))
     (flag_word (codes "extended"))
 

@@ -40,11 +40,11 @@ returns-in-Some-clause-none c err command names =
     (subst (λ used. Names used command) (met_command _ _ _ (codes "decode") rows (met.ensures.found.0 refl) met.ensures.rows) names)
 
 pub returns-in-Some-clause-no_stream : goal.returns-in-Some-clause-no_stream
-returns-in-Some-clause-no_stream c err extended file names =
+returns-in-Some-clause-no_stream c err form extended file names =
     let met = c.in-Some in
     let rows = rows_of (found_of met.decode.now) in
-    c.decode_of.ensures.no_stream err extended file
-    (subst (NamesDecode extended file) (met_command _ _ _ (codes "decode") rows (met.ensures.found.0 refl) met.ensures.rows) names).1
+    c.decode_of.ensures.no_stream err form extended file
+    (subst (NamesDecode form extended file) (met_command _ _ _ (codes "decode") rows (met.ensures.found.0 refl) met.ensures.rows) names).1
 
 pub returns-in-Some-subcommand_matches-clause-no_judge : goal.returns-in-Some-subcommand_matches-clause-no_judge
 returns-in-Some-subcommand_matches-clause-no_judge c err config recording explain file names =

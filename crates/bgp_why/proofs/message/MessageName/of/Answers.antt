@@ -1,6 +1,6 @@
 use Rattle.std.proofs.Common.{List, ℕ, inl, inr, refl, sym, subst}
 use Rattle.bgp_wire.specs.Header.{IsSound, header_of}
-use Rattle.bgp_wire.specs.Verdict.{AreFaults}
+use Rattle.bgp_wire.specs.Verdict.{AreEachFault}
 use Rattle.bgp_text.proofs.EachMessage.{each_message}
 use Rattle.bgp_why.proofs.Named.{faulty_named, long_enough, whole_named}
 use Rattle.bgp_why.proofs.message.MessageName.of.Goals as goal
@@ -17,4 +17,4 @@ pub returns-in-Faulty : goal.returns-in-Faulty
 returns-in-Faulty c = λ either.
     faulty_named c.args.form c.args.limit c.args.octets.now c.in-Faulty.faults
     (λ sound. c.in-Faulty.ensures.verdict.0 (subst (λ (o : List ℕ). IsSound c.args.limit o) (sym c.in-Some.ensures.some) sound))
-    (subst (λ (o : List ℕ). AreFaults c.args.limit o c.in-Faulty.faults) c.in-Some.ensures.some c.in-Faulty.ensures.verdict.1) either
+    (subst (λ (o : List ℕ). AreEachFault c.args.limit o c.in-Faulty.faults) c.in-Some.ensures.some c.in-Faulty.ensures.each) either

@@ -1,0 +1,9 @@
+use Rattle.bgp_check_text.specs.States.{state_line}
+use Rattle.bgp_text.proofs.Pieces.{Joins, and_then}
+use Rattle.bgp_check_text.proofs.states.put_state_line.Goals as goal
+
+pub returns : goal.returns
+unfolding state_line
+returns g c =
+    let law : Joins g.W.Sink = record { joined = g.met.W.Sink.joined } in
+    and_then law c.put.ensures (and_then law c.put_state.ensures c.put-2.ensures)

@@ -1,0 +1,49 @@
+-- Where a record of a recording stands: the packet that shows it, and its second.
+use Rattle.std.specs.Prelude.{◌+◌, ◌-◌, ◌==◌, ◌&&◌, ℕ, Bool, true, false, List, Option, None, Some}
+use Rattle.std.specs.Prelude.{count_by, length, option_map, slice_get, take, unwrap_or}
+use Rattle.bgp_prefix.specs.Shown.{Changed, Received, Sent, ShownRecord, second_of}
+use Rattle.mrt.specs.Reader.{shown_of}
+use Rattle.bgp_recording.specs.declared.entry.Entry.{Entry}
+use Rattle.bgp_explain.specs.Places.{place_with}
+use Rattle.bgp_why.specs.declared.place.Place.{Place}
+use Rattle.bgp_check_tool.specs.declared.orders.NoOrder.{NoOrder}
+
+-- the second of the record after so many, and 0 if there is none
+abbrev pub second_at : List Entry → ℕ → ℕ
+second_at entries count =
+    unwrap_or (option_map (λ (entry : Entry). second_of (shown_of entry.«record»))
+    (slice_get entries count)) 0
+
+-- where the record after so many stands; nowhere if there is none
+abbrev pub place_by : ℕ → Option Entry → Place
+place_by count None = place_with 0 None 0
+place_by count (Some entry) =
+    place_with (count + 1) (Some entry.packet) (second_of (shown_of entry.«record»))
+
+abbrev pub place_at : List Entry → ℕ → Place
+place_at entries count = place_by count (slice_get entries count)
+
+-- and the last one
+abbrev pub last_place : List Entry → Place
+last_place entries = place_at entries (length entries - 1)
+
+-- ---- a sent message that no order explains
+
+-- it stands at the packet that is the first to show it, whichever number its record has
+abbrev pub sent_place : NoOrder → Place
+sent_place found =
+    place_with 0 (Some found.unexplained.packet) found.message.second
+
+abbrev pub is_sent : ShownRecord → Bool
+is_sent (Received second octets) = false
+is_sent (Sent second octets) = true
+is_sent (Changed second old new) = false
+
+abbrev pub sends : Entry → Bool
+sends entry = is_sent (shown_of entry.«record»)
+
+-- the record after so many is the sent message before which so many sent ones stand
+abbrev pub is_message_at : List Entry → ℕ → ℕ → Bool
+is_message_at entries count before =
+    unwrap_or (option_map sends (slice_get entries count)) false
+    && (count_by sends (take count entries) == before)

@@ -1,0 +1,108 @@
+//! Where a record of a recording stands.
+
+ghost use Rattle.std.specs.Prelude.{◌≡◌, count_by, option_map};
+ghost use Rattle.bgp_prefix.specs.Shown.{second_of};
+ghost use Rattle.mrt.specs.Reader.{shown_of};
+ghost use Rattle.bgp_explain.specs.Places.{place_with};
+ghost use Rattle.bgp_check_tool.specs.Place.{is_message_at, last_place, place_at};
+ghost use Rattle.bgp_check_tool.specs.Place.{second_at, sends, sent_place};
+
+use crate::orders::NoOrder;
+use bgp_prefix::Seconds;
+use bgp_recording::Entry;
+use bgp_why::Place;
+use mrt::Record;
+
+/// Returns a record's second.
+fn second_of(shown: &Record<'_>) -> Seconds
+    ensures { result ≡ second_of (shown_of shown.now) }
+{
+    match *shown {
+        Record::In(second, _) | Record::Out(second, _) => second,
+        Record::Change(second, _, _) => second,
+    }
+}
+
+/// Returns the second of the record after so many, and 0 if there is none.
+pub(crate) fn second_at(entries: &[Entry<'_>], count: usize) -> Seconds
+    ensures { result ≡ second_at entries.now count }
+{
+    match entries.get(count) {
+        Some(entry) => second_of(&entry.record),
+        None => 0,
+    }
+}
+
+/// Returns a place without a fraction of its second.
+fn place_with(number: u64, packet: Option<u64>, second: Seconds) -> Place
+    ensures { result ≡ place_with number packet second }
+{
+    Place {
+        number,
+        packet,
+        second,
+        micro: None,
+    }
+}
+
+/// Returns where the record after so many stands; nowhere if there is none.
+pub(crate) fn place_at(entries: &[Entry<'_>], count: usize) -> Place
+    ensures { result ≡ place_at entries.now count }
+{
+    match entries.get(count) {
+        Some(entry) => place_with(
+            count as u64 + 1,
+            Some(entry.packet),
+            second_of(&entry.record),
+        ),
+        None => place_with(0, None, 0),
+    }
+}
+
+/// Returns where the last record stands.
+pub(crate) fn last_place(entries: &[Entry<'_>]) -> Place
+    ensures { result ≡ last_place entries.now }
+{
+    place_at(entries, entries.len().saturating_sub(1))
+}
+
+/// Returns where the sent message stands that no order explains.
+pub(crate) fn sent_place(found: &NoOrder<'_>) -> Place
+    ensures { result ≡ sent_place found.now }
+{
+    place_with(0, Some(found.unexplained.packet), found.message.second)
+}
+
+/// Checks whether a record is that of a message that was sent.
+fn sends(entry: &Entry<'_>) -> bool
+    ensures { result ≡ sends entry.now }
+{
+    match entry.record {
+        Record::Out(..) => true,
+        Record::In(..) | Record::Change(..) => false,
+    }
+}
+
+/// Counts the messages that were sent.
+fn count_sent(entries: &[Entry<'_>]) -> usize
+    ensures { result ≡ count_by sends entries.now }
+{
+    let mut count = 0;
+    for entry in entries {
+        if sends(entry) {
+            count += 1;
+        }
+    }
+    count
+}
+
+/// Checks whether the record after so many is the sent message before which so many sent ones
+/// stand.
+pub(crate) fn is_message_at(entries: &[Entry<'_>], count: usize, before: usize) -> bool
+    ensures { result ≡ is_message_at entries.now count before }
+{
+    match entries.get(count) {
+        Some(entry) => sends(entry) && count_sent(&entries[..count]) == before,
+        None => false,
+    }
+}

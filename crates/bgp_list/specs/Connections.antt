@@ -1,0 +1,71 @@
+-- The lines of a connection, and those of what is refused in a recording.
+use Rattle.std.specs.Prelude.{◌++◌, ℕ, List, None, Some, codes}
+use Rattle.std.specs.Fmt.{decimal}
+use Rattle.bgp_prefix.specs.Text.{address_text}
+use Rattle.bgp_prefix.specs.declared.session.Session.{Session}
+use Rattle.segments.specs.declared.found.Addresses.{Addresses}
+use Rattle.streams.specs.declared.connection.Opening.{Opening}
+use Rattle.streams.specs.declared.passed.Side.{Side}
+use Rattle.streams.specs.declared.passed.Side.TheVariants.{Local, Peer}
+use Rattle.bgp_clock.specs.When.{when_text}
+use Rattle.bgp_why.specs.Endpoint.{endpoint_text}
+use Rattle.bgp_why.specs.declared.endpoint.Endpoint.{Endpoint}
+use Rattle.bgp_import.specs.ListText.{other_side}
+use Rattle.bgp_import.specs.Refusals.{refusal_name, refusal_number, refusal_packet}
+use Rattle.bgp_import.specs.declared.refusal.Refusal.{Refusal}
+use Rattle.bgp_list.specs.Causes.{cause_text}
+
+-- ---- a connection
+
+-- the end of one of the systems
+abbrev pub endpoint_of : Side → Session → Opening → Endpoint
+endpoint_of Local session opening =
+    record { address = session.local; port = Some opening.local_port }
+endpoint_of Peer session opening =
+    record { address = session.peer; port = Some opening.peer_port }
+
+-- its number, its ends, whoever opened it first, and the time and the number of its first packet
+unfoldable pub opening_text : Session → Opening → List ℕ
+opening_text session opening =
+    codes "connection " ++ (decimal opening.number ++ (codes ": "
+    ++ (endpoint_text (endpoint_of opening.opened_by session opening) ++ (codes " to "
+    ++ (endpoint_text (endpoint_of (other_side opening.opened_by) session opening)
+    ++ (codes " at " ++ (when_text opening.second None
+    ++ (codes " UTC, packet " ++ decimal opening.packet))))))))
+
+-- how many octets either side sent, whoever opened the connection first
+unfoldable pub octets_text : ℕ → ℕ → List ℕ
+octets_text first second =
+    codes ", octets sent " ++ (decimal first ++ (codes " and " ++ (decimal second ++ codes "\n")))
+
+-- the line of a connection that isn't refused
+unfoldable pub connection_text : Session → Opening → ℕ → ℕ → List ℕ
+connection_text session opening first second =
+    opening_text session opening ++ octets_text first second
+
+-- ---- a refusal
+
+-- its packet
+unfoldable pub place_text : Refusal → List ℕ
+place_text refusal = codes "refused at packet " ++ decimal (refusal_packet refusal)
+
+-- its number, its name, and what is wrong
+unfoldable pub reason_text : Refusal → List ℕ
+reason_text refusal =
+    codes ": " ++ (decimal (refusal_number refusal) ++ (codes " " ++ (refusal_name refusal
+    ++ (codes ", " ++ (cause_text refusal ++ codes "\n")))))
+
+-- the line of what is refused
+unfoldable pub refused_text : Refusal → List ℕ
+refused_text refusal = place_text refusal ++ reason_text refusal
+
+-- the two lines of a connection that is refused
+unfoldable pub refused_connection_text : Session → Opening → Refusal → List ℕ
+refused_connection_text session opening refusal =
+    opening_text session opening ++ (codes "\n" ++ refused_text refusal)
+
+-- the line of two addresses of whose connections none can be told
+unfoldable pub refused_between_text : Addresses → Refusal → List ℕ
+refused_between_text addresses refusal =
+    place_text refusal ++ (codes ", between " ++ (address_text addresses.from ++ (codes " and "
+    ++ (address_text addresses.to ++ reason_text refusal))))
