@@ -1,3 +1,0 @@
-mod Separated
-mod PartByPart
-mod Listed

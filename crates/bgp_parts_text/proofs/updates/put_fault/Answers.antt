@@ -1,7 +1,0 @@
-use Rattle.bgp_text.proofs.Pieces.{Joins, and_then}
-use Rattle.bgp_parts_text.proofs.updates.put_fault.Goals as goal
-
-pub returns-in-DiscardedValue : goal.returns-in-DiscardedValue
-returns-in-DiscardedValue g c =
-    let law : Joins g.W.Sink = record { joined = g.met.W.Sink.joined } in
-    rw c.in-DiscardedValue.is (and_then law c.put_value-in-DiscardedValue.ensures c.put-in-DiscardedValue.ensures)

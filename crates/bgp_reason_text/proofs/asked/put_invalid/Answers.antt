@@ -1,8 +1,0 @@
-use Rattle.bgp_text.proofs.Pieces.{Joins, and_then}
-use Rattle.bgp_reason_text.proofs.asked.put_invalid.Goals as goal
-
-pub returns : goal.returns
-returns g c =
-    let law : Joins g.W.Sink = record { joined = g.met.W.Sink.joined } in
-    let dropped = rw c.dropped_text.ensures at c.put-2.ensures in
-    and_then law c.put.ensures (and_then law c.put_open_errors.ensures (and_then law dropped (and_then law c.put-3.ensures (and_then law c.put_reasons.ensures c.put-4.ensures))))

@@ -1,8 +1,0 @@
-use Rattle.bgp_text.proofs.Pieces.{Joins, and_then}
-use Rattle.bgp_reason_text.proofs.asked.put_not_for.Goals as goal
-
-pub returns : goal.returns
-returns g c =
-    let law : Joins g.W.Sink = record { joined = g.met.W.Sink.joined } in
-    let state = rw (c.as_bytes.ensures.value, c.state_text.ensures) at c.put-2.ensures in
-    and_then law c.put.ensures state

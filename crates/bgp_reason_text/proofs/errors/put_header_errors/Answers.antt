@@ -1,9 +1,0 @@
-use Rattle.bgp_reason_text.specs.Errors.{header_errors_text}
-use Rattle.bgp_text.proofs.Pieces.{Joins, and_then}
-use Rattle.bgp_reason_text.proofs.errors.put_header_errors.Goals as goal
-
-pub returns : goal.returns
-unfolding header_errors_text
-returns g c =
-    let law : Joins g.W.Sink = record { joined = g.met.W.Sink.joined } in
-    and_then law c.put_if.ensures (and_then law c.put_bad_length.ensures c.put_bad_type.ensures)

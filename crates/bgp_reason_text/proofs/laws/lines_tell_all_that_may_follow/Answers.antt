@@ -1,5 +1,0 @@
-use Rattle.bgp_reason_text.proofs.ToldLines.{tell_all}
-use Rattle.bgp_reason_text.proofs.laws.lines_tell_all_that_may_follow.Goals as goal
-
-pub returns : goal.returns
-returns c = tell_all c.empty_is_clean.ensures.empty

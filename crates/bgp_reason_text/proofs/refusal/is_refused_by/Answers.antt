@@ -1,7 +1,0 @@
-use Rattle.std.proofs.Common.{[]}
-use Rattle.bgp_reason_text.proofs.refusal.is_refused_by.Goals as goal
-
-pub returns : goal.returns
-returns c =
-    let faults = c.open_faults.ensures.must c.args.subcode [] in
-    (λ is. faults.0 (c.contains.ensures.0 is), λ refused. c.contains.ensures.1 (faults.1 refused))

@@ -1,4 +1,0 @@
-use Rattle.bgp_reason_text.proofs.refusal.open_reasons.Goals as goal
-
-pub returns-in-None : goal.returns-in-None
-returns-in-None c = c.unreadable.ensures c.args.config.now

@@ -1,7 +1,0 @@
-use Rattle.bgp_text.proofs.Pieces.{Joins, and_then}
-use Rattle.bgp_reason_text.proofs.whole.put_not_whole_said.Goals as goal
-
-pub returns : goal.returns
-returns g c =
-    let law : Joins g.W.Sink = record { joined = g.met.W.Sink.joined } in
-    and_then law c.put.ensures c.put_why.ensures
