@@ -146,17 +146,17 @@ one_sender selection ends (Some Peer) None h k = absurd (k.1 h.1)
 one_sender selection ends (Some Peer) (Some Local) h k = absurd (h.0 k)
 one_sender selection ends (Some Peer) (Some Peer) h k = refl
 
-one_part : (selection : Selection) (number second : ℕ) (found : Option TcpSegment) (a b : List Segment) → IsPart selection number second found a
-    → IsPart selection number second found b → a ≡ b
-one_part selection number second None a b h k = h ∙ sym k
-one_part selection number second (Some segment) a b (side, sent, is) (other, also, too) =
-    is ∙ ap (λ (s : Option Side). part_by number second segment s) (one_sender selection segment.ends side other sent also) ∙ sym too
+one_part : (selection : Selection) (number : ℕ) (packet : Recorded) (found : Option TcpSegment) (a b : List Segment) → IsPart selection number packet found a
+    → IsPart selection number packet found b → a ≡ b
+one_part selection number packet None a b h k = h ∙ sym k
+one_part selection number packet (Some segment) a b (side, sent, is) (other, also, too) =
+    is ∙ ap (λ (s : Option Side). part_by number packet segment s) (one_sender selection segment.ends side other sent also) ∙ sym too
 
 same_part : (selection : Selection) (number : ℕ) (packet : Recorded) (a b : List Segment) → HasPart selection number packet a → HasPart selection number packet b → a ≡ b
 same_part selection number packet a b h k =
     let same : h.found ≡ k.found =
     found_is h.found k.found (one_selected _ (found_in packet.link_type packet.octets) (Ok h.found) (Ok k.found) h.is_found k.is_found) in
-    one_part selection number packet.second k.found a b (subst (λ (f : Option TcpSegment). IsPart selection number packet.second f a) same h.is_part) k.is_part
+    one_part selection number packet k.found a b (subst (λ (f : Option TcpSegment). IsPart selection number packet f a) same h.is_part) k.is_part
 
 pub same_taken : (selection : Selection) (before : ℕ) (packets : List Recorded) (a b : List Segment) → AreTaken selection before packets a → AreTaken selection before packets b → a ≡ b
 same_taken selection before [] a b h k = h ∙ sym k
@@ -187,7 +187,7 @@ record AtPacket (selection : Selection) (before : ℕ) (packets : List Recorded)
   found : IsFound selection packet (Ok (Some segment))
 
 part_at : (selection : Selection) (before : ℕ) (packet : Recorded) (later : List Recorded) (part : List Segment) (found : Option TcpSegment)
-    → IsFound selection packet (Ok found) → IsPart selection (before + 1) packet.second found part → AllByRecursion (AtPacket selection before (packet ∷ later)) part
+    → IsFound selection packet (Ok found) → IsPart selection (before + 1) packet found part → AllByRecursion (AtPacket selection before (packet ∷ later)) part
 part_at selection before packet later part None is_found is = subst (λ (p : List Segment). AllByRecursion (AtPacket selection before (packet ∷ later)) p) (sym is) tt
 part_at selection before packet later part (Some segment) is_found (None, sent, is) =
     subst (λ (p : List Segment). AllByRecursion (AtPacket selection before (packet ∷ later)) p) (sym is) tt

@@ -22,19 +22,19 @@ earlier last s [] lt up = tt
 earlier last s (e ∷ segments) lt (here, up) = (omega (arith, here, lt), earlier last s segments lt up)
 
 -- the segments of a packet stand behind what was told before, and those of later packets behind them
-with_part : (before : ℕ) (second : ℕ) (selection : Selection) (part others told : List Segment) (found : Option TcpSegment)
-    → IsPart selection (before + 1) second found part → AreUpTo before told → AreInOrder told
+with_part : (before : ℕ) (packet : Recorded) (selection : Selection) (part others told : List Segment) (found : Option TcpSegment)
+    → IsPart selection (before + 1) packet found part → AreUpTo before told → AreInOrder told
     → ((told' : List Segment) → AreUpTo (before + 1) told' → AreInOrder told' → AreInOrder (reverse others ++ told'))
     → AreInOrder (reverse (part ++ others) ++ told)
-with_part before second selection part others told None is up order on =
+with_part before packet selection part others told None is up order on =
     subst (λ (p : List Segment). AreInOrder (reverse (p ++ others) ++ told)) (sym is)
     (on told (up_to_more before (before + 1) told (omega arith) up) order)
-with_part before second selection part others told (Some segment) (None, sent, is) up order on =
+with_part before packet selection part others told (Some segment) (None, sent, is) up order on =
     subst (λ (p : List Segment). AreInOrder (reverse (p ++ others) ++ told)) (sym is)
     (on told (up_to_more before (before + 1) told (omega arith) up) order)
-with_part before second selection part others told (Some segment) (Some side, sent, is) up order on =
-    let own = part_by (before + 1) second segment (Some side) in
-    let more = on (own ++ told) (omega arith, up_to_more before (before + 1) told (omega arith) up) (earlier before (passed_of (before + 1) second segment side) told (omega arith) up, order) in
+with_part before packet selection part others told (Some segment) (Some side, sent, is) up order on =
+    let own = part_by (before + 1) packet segment (Some side) in
+    let more = on (own ++ told) (omega arith, up_to_more before (before + 1) told (omega arith) up) (earlier before (passed_of (before + 1) packet segment side) told (omega arith) up, order) in
     let joined : reverse (own ++ others) ++ told ≡ reverse others ++ (own ++ told) = ap (λ (l : List Segment). l ++ told) (reverse-append own others) ∙ append_assoc (reverse others) own told in
     subst (λ (p : List Segment). AreInOrder (reverse (p ++ others) ++ told)) (sym is) (subst AreInOrder (sym joined) more)
 
@@ -45,7 +45,7 @@ in_order_on selection before [] segments told taken up order =
     subst (λ (s : List Segment). AreInOrder (reverse s ++ told)) (sym taken) order
 in_order_on selection before (packet ∷ later) segments told (part, others, has, rest, is) up order =
     subst (λ (s : List Segment). AreInOrder (reverse s ++ told)) (sym is)
-    (with_part before packet.second selection part others told has.found has.is_part up order
+    (with_part before packet selection part others told has.found has.is_part up order
     (λ told' up' order'. in_order_on selection (before + 1) later others told' rest up' order'))
 
 -- the packets of the segments rise

@@ -68,10 +68,10 @@ one_sender selection ends (Some Peer) None h k = absurd (k.1 h.1)
 one_sender selection ends (Some Peer) (Some Local) h k = absurd (h.0 k)
 one_sender selection ends (Some Peer) (Some Peer) h k = refl
 
-one_part : (selection : Selection) (number second : ℕ) (found : Option TcpSegment) (a b : List Segment) → IsPart selection number second found a → IsPart selection number second found b → a ≡ b
-one_part selection number second None a b h k = h ∙ sym k
-one_part selection number second (Some segment) a b (side, sent, is) (other, also, too) =
-    is ∙ ap (λ (s : Option Side). part_by number second segment s) (one_sender selection segment.ends side other sent also) ∙ sym too
+one_part : (selection : Selection) (number : ℕ) (packet : Recorded) (found : Option TcpSegment) (a b : List Segment) → IsPart selection number packet found a → IsPart selection number packet found b → a ≡ b
+one_part selection number packet None a b h k = h ∙ sym k
+one_part selection number packet (Some segment) a b (side, sent, is) (other, also, too) =
+    is ∙ ap (λ (s : Option Side). part_by number packet segment s) (one_sender selection segment.ends side other sent also) ∙ sym too
 
 abbrev ok_found : Option TcpSegment → Answer
 ok_found found = Ok found
@@ -82,7 +82,7 @@ found_is a b e = cc
 same_part : (selection : Selection) (number : ℕ) (packet : Recorded) (a b : List Segment) → HasPart selection number packet a → HasPart selection number packet b → a ≡ b
 same_part selection number packet a b h k =
     let same : h.found ≡ k.found = found_is h.found k.found (one_selected _ (found_in packet.link_type packet.octets) (Ok h.found) (Ok k.found) h.is_found k.is_found) in
-    one_part selection number packet.second k.found a b (subst (λ (f : Option TcpSegment). IsPart selection number packet.second f a) same h.is_part) k.is_part
+    one_part selection number packet k.found a b (subst (λ (f : Option TcpSegment). IsPart selection number packet f a) same h.is_part) k.is_part
 
 pub same_taken : (selection : Selection) (before : ℕ) (packets : List Recorded) (a b : List Segment) → AreTaken selection before packets a → AreTaken selection before packets b → a ≡ b
 same_taken selection before [] a b h k = h ∙ sym k
@@ -101,7 +101,7 @@ giver_past (run ∷ runs) place le =
 giver_some : (runs : List Run) (place : ℕ) → place < total runs → (g : Giver) × (giver_at runs place ≡ Some g)
 giver_some [] place lt = absurd (omega (arith, lt))
 giver_some (run ∷ runs) place lt = elim (cases_lt place run.count) [
-  | inl here ↦ (record { packet = run.packet; second = run.second }, rw (lt-ltb place run.count here))
+  | inl here ↦ (record { packet = run.packet; second = run.second; micro = run.micro }, rw (lt-ltb place run.count here))
   | inr there ↦
       let later = giver_some runs (place - run.count) (omega (arith, total-cons run runs, lt, there)) in
       (later.0, rw (le-ltb place run.count there) later.1)
@@ -165,6 +165,7 @@ same_connection (s ∷ before) one other h k = record {
   opened_by = h.opened_by ∙ sym k.opened_by;
   packet = h.packet ∙ sym k.packet;
   second = h.second ∙ sym k.second;
+  micro = h.micro ∙ sym k.micro;
   received = same_stream Peer (s ∷ before) one.received other.received h.received k.received;
   sent = same_stream Local (s ∷ before) one.sent other.sent h.sent k.sent;
   end = h.end ∙ sym k.end;
@@ -187,7 +188,7 @@ same_answer number count connections one other h k =
 
 off_by : ℕ → List Numbered → ℕ
 off_by made [] = 0
-off_by made (n ∷ later) = counted made n.packet n.shown + off_by (made_by made n.packet n.shown) later
+off_by made (n ∷ later) = counted made n.moment.packet n.shown + off_by (made_by made n.moment.packet n.shown) later
 
 off_same : (made : ℕ) (entries : List Entry) → put_off made entries ≡ off_by made (map numbered_of entries)
 unfolding off_by
@@ -216,10 +217,10 @@ calm_sender selection ends None h = h
 calm_sender selection ends (Some Local) h = h
 calm_sender selection ends (Some Peer) h = h
 
-calm_part : (selection : Selection) (number second : ℕ) (found : Option TcpSegment) (part : List Segment) → IsPart selection number second found part
-    → IsPart (calm_selection selection) number second found part
-calm_part selection number second None part h = h
-calm_part selection number second (Some segment) part (side, sent, is) = (side, calm_sender selection segment.ends side sent, is)
+calm_part : (selection : Selection) (number : ℕ) (packet : Recorded) (found : Option TcpSegment) (part : List Segment) → IsPart selection number packet found part
+    → IsPart (calm_selection selection) number packet found part
+calm_part selection number packet None part h = h
+calm_part selection number packet (Some segment) part (side, sent, is) = (side, calm_sender selection segment.ends side sent, is)
 
 calm_taken : (selection : Selection) (before : ℕ) (packets : List Recorded) (segments : List Segment) → AreTaken selection before packets segments
     → AreTaken (calm_selection selection) before packets segments
@@ -227,7 +228,7 @@ calm_taken selection before [] segments h = h
 calm_taken selection before (packet ∷ later) segments (part, others, has, rest, is) = (
   part,
   others,
-  record { found = has.found; is_found = has.is_found; is_part = calm_part selection (before + 1) packet.second has.found part has.is_part },
+  record { found = has.found; is_found = has.is_found; is_part = calm_part selection (before + 1) packet has.found part has.is_part },
   calm_taken selection (before + 1) later others rest,
   is,
 )

@@ -36,14 +36,14 @@ one_more selection before (first ∷ later) segments packet part (own, others, f
       ap (λ (s : List Segment). s ++ part) is ∙ append_assoc own others part,
     )
 
-part_reversed : (selection : Selection) (number second : ℕ) (found : Option TcpSegment) (part : List Segment) → IsPart selection number second found part → reverse part ≡ part
-part_reversed selection number second None part is = ap reverse is ∙ sym is
-part_reversed selection number second (Some segment) part (None, sent, is) = ap reverse is ∙ sym is
-part_reversed selection number second (Some segment) part (Some side, sent, is) = ap reverse is ∙ sym is
+part_reversed : (selection : Selection) (number : ℕ) (packet : Recorded) (found : Option TcpSegment) (part : List Segment) → IsPart selection number packet found part → reverse part ≡ part
+part_reversed selection number packet None part is = ap reverse is ∙ sym is
+part_reversed selection number packet (Some segment) part (None, sent, is) = ap reverse is ∙ sym is
+part_reversed selection number packet (Some segment) part (Some side, sent, is) = ap reverse is ∙ sym is
 
 -- told from the last one back, they begin with those of the last packet
 pub last_first : (selection : Selection) (number : ℕ) (packet : Recorded) (segments part : List Segment) → HasPart selection number packet part
     → part ++ reverse segments ≡ reverse (segments ++ part)
 last_first selection number packet segments part has =
-    ap (λ (p : List Segment). p ++ reverse segments) (sym (part_reversed selection number packet.second has.found part has.is_part))
+    ap (λ (p : List Segment). p ++ reverse segments) (sym (part_reversed selection number packet has.found part has.is_part))
     ∙ sym (reverse-append segments part)

@@ -241,7 +241,7 @@ module _ (selection : Selection) (own : Addresses) (port : ℕ) (same : selectio
       subst (λ (k : ℕ). HasPart (selection_of own port) k packet part) is (subst (λ (s : Selection). HasPart s number packet part) same has)
 
   pub part_of_segment : (number n : ℕ) (segment : TcpSegment) (side : Side) (s : Segment) → number ≡ n → IsSelected conversation finding (Ok (Some segment))
-      → IsSentBy selection segment.ends (Some side) → s ≡ passed_of number packet.second segment side → HasPart (selection_of own port) n packet (s ∷ [])
+      → IsSentBy selection segment.ends (Some side) → s ≡ passed_of number packet segment side → HasPart (selection_of own port) n packet (s ∷ [])
   part_of_segment number n segment side s is selected sent its = part_at number n (s ∷ []) is (record {
     found = Some segment;
     is_found = found_so selection packet conversation finding (Ok (Some segment)) selected meant found;

@@ -38,6 +38,7 @@ is_clocked segments number count connection order answered =
       received = c.received;
       sent = c.sent;
       ends = c.ends;
+      fractions = c.fractions;
     }
 
 -- records that can be written are those of entries that can

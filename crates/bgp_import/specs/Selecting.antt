@@ -52,11 +52,12 @@ abbrev pub peer_end : Side → Ends → Endpoint
 peer_end Local ends = ends.to
 peer_end Peer ends = ends.from
 
--- a segment that this system sent, in the packet of this number and second
-abbrev pub passed_of : ℕ → ℕ → TcpSegment → Side → Segment
-passed_of number second segment side = record {
+-- a segment that this system sent, in the packet of this number
+abbrev pub passed_of : ℕ → Recorded → TcpSegment → Side → Segment
+passed_of number packet segment side = record {
   packet = number;
-  second = second;
+  second = packet.second;
+  micro = packet.micro;
   sender = side;
   local_port = (local_end side segment.ends).port;
   peer_port = (peer_end side segment.ends).port;
@@ -76,22 +77,22 @@ abbrev pub IsFound : Selection → Recorded → Answer → Type 0
 IsFound selection packet answer =
     IsSelected (conversation_of selection) (found_in packet.link_type packet.octets) answer
 
-abbrev pub part_by : ℕ → ℕ → TcpSegment → Option Side → List Segment
-part_by number second segment None = []
-part_by number second segment (Some side) = passed_of number second segment side ∷ []
+abbrev pub part_by : ℕ → Recorded → TcpSegment → Option Side → List Segment
+part_by number packet segment None = []
+part_by number packet segment (Some side) = passed_of number packet segment side ∷ []
 
-abbrev pub IsPart : Selection → ℕ → ℕ → Option TcpSegment → List Segment → Type 0
-IsPart selection number second None part = part ≡ []
-IsPart selection number second (Some segment) part =
+abbrev pub IsPart : Selection → ℕ → Recorded → Option TcpSegment → List Segment → Type 0
+IsPart selection number packet None part = part ≡ []
+IsPart selection number packet (Some segment) part =
     (side : Option Side) × IsSentBy selection segment.ends side
-    × (part ≡ part_by number second segment side)
+    × (part ≡ part_by number packet segment side)
 
 -- the packet of this number isn't refused, and has this of the session: a segment or none
 pub record HasPart (selection : Selection) (number : ℕ) (packet : Recorded) (part : List Segment)
     : Type 0 where
   pub found : Option TcpSegment
   pub is_found : IsFound selection packet (Ok found)
-  pub is_part : IsPart selection number packet.second found part
+  pub is_part : IsPart selection number packet found part
 
 -- The segments of packets, of which the first has the number that follows on `before`: none of the
 -- packets is refused.

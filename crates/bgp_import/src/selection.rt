@@ -1,6 +1,7 @@
 //! Which session of a recording is meant, and who sent its segments.
 
 ghost use Rattle.std.specs.Prelude.{◌≡◌, ◌↔◌, IsTrue};
+ghost use Rattle.packets.specs.Packet.{recorded_of};
 ghost use Rattle.segments.specs.Segment.{segment_value};
 ghost use Rattle.streams.specs.Passed.{segment_of};
 ghost use Rattle.bgp_import.specs.Selecting.{conversation_of, IsLocalEnd, IsSentBy, passed_of};
@@ -59,7 +60,7 @@ impl Selection {
 /// A segment of a packet, as it passed between the two systems.
 pub fn passed<'a>(packet: &Packet<'_>, segment: &Segment<'a>, from: Side) -> Passed<'a>
     ensures { segment_of result
-        ≡ passed_of packet.now.number packet.now.second (segment_value segment.now) from }
+        ≡ passed_of packet.now.number (recorded_of packet.now) (segment_value segment.now) from }
 {
     let (local, peer) = match from {
         Side::Local => (segment.ends.from, segment.ends.to),
@@ -68,6 +69,7 @@ pub fn passed<'a>(packet: &Packet<'_>, segment: &Segment<'a>, from: Side) -> Pas
     Passed {
         packet: packet.number,
         second: packet.second,
+        micro: packet.micro,
         from,
         local_port: local.port,
         peer_port: peer.port,

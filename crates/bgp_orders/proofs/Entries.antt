@@ -7,6 +7,7 @@ use Rattle.streams.specs.declared.connection.End.{End}
 use Rattle.bgp_machine.specs.Run.{IsComplete}
 use Rattle.bgp_recording.specs.declared.entry.Entry.{Entry}
 use Rattle.bgp_recording.specs.declared.message.Message.{Message}
+use Rattle.bgp_recording.specs.declared.pending.Moment.{Moment}
 use Rattle.bgp_recording.specs.declared.ordering.Exchange.{Exchange}
 use Rattle.bgp_recording.specs.declared.standing.Before.TheVariants.{Other}
 use Rattle.bgp_recording.specs.declared.state.State.{State}
@@ -15,6 +16,7 @@ use Rattle.bgp_recording.specs.Captured.{records_of}
 use Rattle.bgp_recording.specs.Changes.{led_by_received, led_by_sent, led_by_end, led_by_left, is_answered_before_open, just_received, are_left, state_then}
 use Rattle.bgp_recording.specs.First.{IsFirst}
 use Rattle.bgp_recording.specs.Leads.{MayReceive, MayPass, IsDone}
+use Rattle.bgp_recording.specs.Moments.{end_moment, moment_in}
 use Rattle.bgp_recording.specs.States.{state_number}
 use Rattle.bgp_recording.specs.Tells.{Event, Passed, Numbered, AreTimed, items_in, numbered_in, numbered_of, numbered_with, change, second_behind}
 use Rattle.bgp_recording.specs.Told.{IsTold}
@@ -69,8 +71,8 @@ runs_of_entries_are_whole config within exchange entries e of complete = record 
 -- ---- one item more
 
 -- what is shown of a message at this second, with the change to which it leads
-abbrev shown_message : ℕ → ShownRecord → ℕ → State → Option State → List Numbered
-shown_message packet r second state led = numbered_with packet r ∷ change packet second state led
+abbrev shown_message : Moment → ShownRecord → ℕ → State → Option State → List Numbered
+shown_message moment r second state led = numbered_with moment r ∷ change moment second state led
 
 -- the records of what follows from a spot on
 abbrev rest_of : Spot → List Item → List Numbered
@@ -79,14 +81,14 @@ rest_of spot later = numbered_in spot.state spot.before (events_behind spot.last
 heard_here : (within : ℕ) (exchange : Exchange) (start : State) (spot : Spot) (x : Message) (numbered : List Numbered) → IsFirst (drop spot.place.received exchange.received.now) x
     → MayReceive x (drop spot.place.sent exchange.sent.now) (end_left spot.has_ended exchange.end) → AreUnderWay within exchange start spot numbered
     → AreUnderWay within exchange start (heard_spot exchange spot x)
-    (numbered ++ shown_message x.packet (shown.Received (max x.second spot.last) x.octets.now) (max x.second spot.last) spot.state (led_at exchange spot x))
+    (numbered ++ shown_message (moment_in x) (shown.Received (max x.second spot.last) x.octets.now) (max x.second spot.last) spot.state (led_at exchange spot x))
 heard_here within exchange start spot x numbered first may under later w =
     let left : List Message = drop (spot.place.received + 1) exchange.received.now in
     let sent : List Message = drop spot.place.sent exchange.sent.now in
     let second : ℕ = max x.second spot.last in
     let k = under (Received x ∷ later) (left, first_is exchange.received.now spot.place.received x first, may, w) in
     let led : List Message → Option State = λ ss. led_by_received spot.state x.kind (is_answered_before_open x.kind ss) in
-    let front : List Message → List Numbered = λ ss. shown_message x.packet (shown.Received second x.octets.now) second spot.state (led ss) in
+    let front : List Message → List Numbered = λ ss. shown_message (moment_in x) (shown.Received second x.octets.now) second spot.state (led ss) in
     let rest : List Message → List Numbered = λ ss. numbered_in (state_then spot.state (led ss)) (just_received x.kind) (events_behind second later) in
     let e : sent_in (items_in (events_behind second later)) ≡ sent =
     ap sent_in (items_behind second later) ∙ walk_sent within left sent (end_left spot.has_ended exchange.end) later w in (
@@ -96,67 +98,67 @@ heard_here within exchange start spot x numbered first may under later w =
     )
 
 pub heard_on : (within : ℕ) (exchange : Exchange) (start : State) (spot : Spot) (turn : Turn) (spot2 : Spot) (numbered new : List Numbered) → Hearing exchange spot turn → spot2 ≡ turn.spot
-    → new ≡ numbered ++ numbered_with turn.packet (shown_of turn.record) ∷ change turn.packet turn.spot.last spot.state turn.led
+    → new ≡ numbered ++ numbered_with turn.moment (shown_of turn.record) ∷ change turn.moment turn.spot.last spot.state turn.led
     → AreUnderWay within exchange start spot numbered → AreUnderWay within exchange start spot2 new
 heard_on within exchange start spot turn spot2 numbered new h there e under =
     let x = h.message in
     let received : List Message = drop spot.place.received exchange.received.now in
     let may = subst (λ (v : Message). MayReceive v (drop spot.place.sent exchange.sent.now) (end_left spot.has_ended exchange.end)) (same_first received h.may.0 x h.may.1 h.first) h.may.2 in
     let Then : Spot → List Numbered → Type 0 = λ s ns. AreUnderWay within exchange start s ns in
-    let is : new ≡ numbered ++ shown_message x.packet (shown.Received (max x.second spot.last) x.octets.now) (max x.second spot.last) spot.state (led_at exchange spot x) =
+    let is : new ≡ numbered ++ shown_message (moment_in x) (shown.Received (max x.second spot.last) x.octets.now) (max x.second spot.last) spot.state (led_at exchange spot x) =
     e
-    ∙ ap (λ (p : ℕ). numbered ++ shown_message p (shown_of turn.record) turn.spot.last spot.state turn.led) h.packet
-    ∙ ap (λ (r : ShownRecord). numbered ++ shown_message x.packet r turn.spot.last spot.state turn.led) h.shows
-    ∙ ap (λ (s : Spot). numbered ++ shown_message x.packet (shown.Received (max x.second spot.last) x.octets.now) s.last spot.state turn.led) h.leads
-    ∙ ap (λ (led : Option State). numbered ++ shown_message x.packet (shown.Received (max x.second spot.last) x.octets.now) (max x.second spot.last) spot.state led) h.led in
+    ∙ ap (λ (p : Moment). numbered ++ shown_message p (shown_of turn.record) turn.spot.last spot.state turn.led) h.moment
+    ∙ ap (λ (r : ShownRecord). numbered ++ shown_message (moment_in x) r turn.spot.last spot.state turn.led) h.shows
+    ∙ ap (λ (s : Spot). numbered ++ shown_message (moment_in x) (shown.Received (max x.second spot.last) x.octets.now) s.last spot.state turn.led) h.leads
+    ∙ ap (λ (led : Option State). numbered ++ shown_message (moment_in x) (shown.Received (max x.second spot.last) x.octets.now) (max x.second spot.last) spot.state led) h.led in
     subst (λ (s : Spot). Then s new) (sym (there ∙ h.leads))
     (subst (λ (ns : List Numbered). Then (heard_spot exchange spot x) ns) (sym is) (heard_here within exchange start spot x numbered h.first may under))
 
 said_here : (within : ℕ) (exchange : Exchange) (start : State) (spot : Spot) (x : Message) (numbered : List Numbered) → IsFirst (drop spot.place.sent exchange.sent.now) x
     → MayPass within x.second (drop spot.place.received exchange.received.now) → AreUnderWay within exchange start spot numbered
     → AreUnderWay within exchange start (said_spot spot x)
-    (numbered ++ shown_message x.packet (shown.Sent x.second x.octets.now) x.second spot.state (led_by_sent spot.state x.kind spot.before))
+    (numbered ++ shown_message (moment_in x) (shown.Sent x.second x.octets.now) x.second spot.state (led_by_sent spot.state x.kind spot.before))
 said_here within exchange start spot x numbered first may under later w =
     let left : List Message = drop (spot.place.sent + 1) exchange.sent.now in
     let k = under (Sent x ∷ later) (left, first_is exchange.sent.now spot.place.sent x first, may, w) in
-    let front : List Numbered = shown_message x.packet (shown.Sent x.second x.octets.now) x.second spot.state (led_by_sent spot.state x.kind spot.before) in (
+    let front : List Numbered = shown_message (moment_in x) (shown.Sent x.second x.octets.now) x.second spot.state (led_by_sent spot.state x.kind spot.before) in (
       k.0,
       k.1,
       k.2 ∙ sym (append_assoc numbered front (rest_of (said_spot spot x) later)),
     )
 
 pub said_on : (within : ℕ) (exchange : Exchange) (start : State) (spot : Spot) (turn : Turn) (spot2 : Spot) (numbered new : List Numbered) → Saying within exchange spot turn → spot2 ≡ turn.spot
-    → new ≡ numbered ++ numbered_with turn.packet (shown_of turn.record) ∷ change turn.packet turn.spot.last spot.state turn.led
+    → new ≡ numbered ++ numbered_with turn.moment (shown_of turn.record) ∷ change turn.moment turn.spot.last spot.state turn.led
     → AreUnderWay within exchange start spot numbered → AreUnderWay within exchange start spot2 new
 said_on within exchange start spot turn spot2 numbered new h there e under =
     let x = h.message in
     let sent : List Message = drop spot.place.sent exchange.sent.now in
     let may = subst (λ (v : Message). MayPass within v.second (drop spot.place.received exchange.received.now)) (same_first sent h.may.0 x h.may.1 h.first) h.may.2 in
     let Then : Spot → List Numbered → Type 0 = λ s ns. AreUnderWay within exchange start s ns in
-    let is : new ≡ numbered ++ shown_message x.packet (shown.Sent x.second x.octets.now) x.second spot.state (led_by_sent spot.state x.kind spot.before) =
+    let is : new ≡ numbered ++ shown_message (moment_in x) (shown.Sent x.second x.octets.now) x.second spot.state (led_by_sent spot.state x.kind spot.before) =
     e
-    ∙ ap (λ (p : ℕ). numbered ++ shown_message p (shown_of turn.record) turn.spot.last spot.state turn.led) h.packet
-    ∙ ap (λ (r : ShownRecord). numbered ++ shown_message x.packet r turn.spot.last spot.state turn.led) h.shows
-    ∙ ap (λ (s : Spot). numbered ++ shown_message x.packet (shown.Sent x.second x.octets.now) s.last spot.state turn.led) h.leads
-    ∙ ap (λ (led : Option State). numbered ++ shown_message x.packet (shown.Sent x.second x.octets.now) x.second spot.state led) h.led in
+    ∙ ap (λ (p : Moment). numbered ++ shown_message p (shown_of turn.record) turn.spot.last spot.state turn.led) h.moment
+    ∙ ap (λ (r : ShownRecord). numbered ++ shown_message (moment_in x) r turn.spot.last spot.state turn.led) h.shows
+    ∙ ap (λ (s : Spot). numbered ++ shown_message (moment_in x) (shown.Sent x.second x.octets.now) s.last spot.state turn.led) h.leads
+    ∙ ap (λ (led : Option State). numbered ++ shown_message (moment_in x) (shown.Sent x.second x.octets.now) x.second spot.state led) h.led in
     subst (λ (s : Spot). Then s new) (sym (there ∙ h.leads))
     (subst (λ (ns : List Numbered). Then (said_spot spot x) ns) (sym is) (said_here within exchange start spot x numbered h.first may under))
 
 -- the changes to which the end leads, if received messages are left or not
-abbrev shown_end : ℕ → ℕ → State → Bool → List Numbered
-shown_end packet second state left =
-    change packet second state (led_by_end state) ++ change packet second (state_then state (led_by_end state)) (led_by_left state left)
+abbrev shown_end : Moment → ℕ → State → Bool → List Numbered
+shown_end moment second state left =
+    change moment second state (led_by_end state) ++ change moment second (state_then state (led_by_end state)) (led_by_left state left)
 
 ended_here : (within : ℕ) (exchange : Exchange) (start : State) (spot : Spot) (e : End) (numbered : List Numbered) → end_left spot.has_ended exchange.end ≡ Some e
     → drop spot.place.sent exchange.sent.now ≡ [] → MayPass within e.second (drop spot.place.received exchange.received.now) → AreUnderWay within exchange start spot numbered
-    → AreUnderWay within exchange start (ended_spot exchange spot e) (numbered ++ shown_end e.packet (max e.second spot.last) spot.state (left_at exchange spot))
+    → AreUnderWay within exchange start (ended_spot exchange spot e) (numbered ++ shown_end (end_moment e) (max e.second spot.last) spot.state (left_at exchange spot))
 ended_here within exchange start spot e numbered is none may under later w =
     let received : List Message = drop spot.place.received exchange.received.now in
     let second : ℕ = max e.second spot.last in
     let k = under (Ended e ∷ later) (is, none, may, w) in
     let ended : State = state_then spot.state (led_by_end spot.state) in
-    let one : List Numbered = change e.packet second spot.state (led_by_end spot.state) in
-    let other : List Message → List Numbered = λ rs. change e.packet second ended (led_by_left spot.state (are_left rs)) in
+    let one : List Numbered = change (end_moment e) second spot.state (led_by_end spot.state) in
+    let other : List Message → List Numbered = λ rs. change (end_moment e) second ended (led_by_left spot.state (are_left rs)) in
     let rest : List Message → List Numbered = λ rs. numbered_in (state_then ended (led_by_left spot.state (are_left rs))) Other (events_behind second later) in
     let same : received_in (items_in (events_behind second later)) ≡ received =
     ap received_in (items_behind second later) ∙ walk_received within received (drop spot.place.sent exchange.sent.now) None later w in (
@@ -169,18 +171,18 @@ ended_here within exchange start spot e numbered is none may under later w =
     )
 
 pub ended_on : (within : ℕ) (exchange : Exchange) (start : State) (spot : Spot) (ending : Ending) (spot2 : Spot) (numbered new : List Numbered) → Closing within exchange spot ending → spot2 ≡ ending.spot
-    → new ≡ numbered ++ (change ending.packet ending.spot.last spot.state (led_by_end spot.state)
-    ++ change ending.packet ending.spot.last (state_then spot.state (led_by_end spot.state)) (led_by_left spot.state ending.are_left))
+    → new ≡ numbered ++ (change ending.moment ending.spot.last spot.state (led_by_end spot.state)
+    ++ change ending.moment ending.spot.last (state_then spot.state (led_by_end spot.state)) (led_by_left spot.state ending.are_left))
     → AreUnderWay within exchange start spot numbered → AreUnderWay within exchange start spot2 new
 ended_on within exchange start spot ending spot2 numbered new h there e under =
     let x = h.end in
     let left = left_is spot.has_ended exchange.end x (λ v. MayPass within v.second (drop spot.place.received exchange.received.now)) h.is h.may.1 in
     let Then : Spot → List Numbered → Type 0 = λ s ns. AreUnderWay within exchange start s ns in
-    let is : new ≡ numbered ++ shown_end x.packet (max x.second spot.last) spot.state (left_at exchange spot) =
+    let is : new ≡ numbered ++ shown_end (end_moment x) (max x.second spot.last) spot.state (left_at exchange spot) =
     e
-    ∙ ap (λ (p : ℕ). numbered ++ shown_end p ending.spot.last spot.state ending.are_left) h.packet
-    ∙ ap (λ (s : Spot). numbered ++ shown_end x.packet s.last spot.state ending.are_left) h.leads
-    ∙ ap (λ (b : Bool). numbered ++ shown_end x.packet (max x.second spot.last) spot.state b) h.left in
+    ∙ ap (λ (p : Moment). numbered ++ shown_end p ending.spot.last spot.state ending.are_left) h.moment
+    ∙ ap (λ (s : Spot). numbered ++ shown_end (end_moment x) s.last spot.state ending.are_left) h.leads
+    ∙ ap (λ (b : Bool). numbered ++ shown_end (end_moment x) (max x.second spot.last) spot.state b) h.left in
     subst (λ (s : Spot). Then s new) (sym (there ∙ h.leads))
     (subst (λ (ns : List Numbered). Then (ended_spot exchange spot x) ns) (sym is) (ended_here within exchange start spot x numbered left.0 h.may.0 left.1 under))
 

@@ -4,6 +4,7 @@ use Rattle.std.proofs.lemmas.List.{map-append}
 use Rattle.bgp_prefix.specs.Shown as shown
 use Rattle.bgp_prefix.specs.Shown.{ShownRecord}
 use Rattle.bgp_open.specs.declared.config.Config.{Config}
+use Rattle.bgp_recording.specs.declared.pending.Moment.{Moment}
 use Rattle.bgp_recording.specs.declared.standing.Before.{Before}
 use Rattle.bgp_recording.specs.declared.standing.Before.TheVariants.{Other}
 use Rattle.bgp_recording.specs.declared.state.State.{State}
@@ -12,6 +13,7 @@ use Rattle.streams.specs.declared.passed.Side.{Side}
 use Rattle.streams.specs.declared.passed.Side.TheVariants.{Local, Peer}
 use Rattle.bgp_recording.specs.Allowed.{Received, Sent, Ended, received_in, sent_in}
 use Rattle.bgp_recording.specs.Changes.{led_by_received, led_by_sent, led_by_end, led_by_left, is_answered_before_open, just_received, just_sent, are_left, opened_state, state_then}
+use Rattle.bgp_recording.specs.Moments.{end_moment, moment_in}
 use Rattle.bgp_recording.specs.States.{state_number}
 use Rattle.bgp_recording.specs.Tells.{Event, Passed, items_in, numbered_in, change}
 use Rattle.bgp_judge.specs.Chains.{BareReaches}
@@ -20,9 +22,9 @@ use Rattle.bgp_orders.specs.Ways.{changed_to, received_records, sent_records, en
 
 -- ---- the records are those that tell a session
 
-change_shown : (packet second : ℕ) (state : State) (led : Option State) → map (λ n. n.shown) (change packet second state led) ≡ changed_to second state led
-change_shown packet second state None = refl
-change_shown packet second state (Some led) = refl
+change_shown : (moment : Moment) (second : ℕ) (state : State) (led : Option State) → map (λ n. n.shown) (change moment second state led) ≡ changed_to second state led
+change_shown moment second state None = refl
+change_shown moment second state (Some led) = refl
 
 pub same_records : (state : State) (before : Before) (events : List Event) → map (λ n. n.shown) (numbered_in state before events) ≡ records_in state before events []
 same_records state before [] = refl
@@ -32,15 +34,15 @@ same_records state before (Passed second (Received m) ∷ later) =
     ++ records_in (state_then state (led_by_received state m.kind (is_answered_before_open m.kind (sent_in (items_in v))))) (just_received m.kind) later [] in
     let led = led_by_received state m.kind (is_answered_before_open m.kind (sent_in (items_in later))) in
     ap (λ (rs : List ShownRecord). shown.Received second m.octets.now ∷ rs)
-    (map-append (λ n. n.shown) (change m.packet second state led) (numbered_in (state_then state led) (just_received m.kind) later)
-    ∙ ap (λ rs. rs ++ map (λ n. n.shown) (numbered_in (state_then state led) (just_received m.kind) later)) (change_shown m.packet second state led)
+    (map-append (λ n. n.shown) (change (moment_in m) second state led) (numbered_in (state_then state led) (just_received m.kind) later)
+    ∙ ap (λ rs. rs ++ map (λ n. n.shown) (numbered_in (state_then state led) (just_received m.kind) later)) (change_shown (moment_in m) second state led)
     ∙ ap (λ rs. changed_to second state led ++ rs) (same_records (state_then state led) (just_received m.kind) later))
     ∙ ap Records (sym (append-nil later))
 same_records state before (Passed second (Sent m) ∷ later) =
     let led = led_by_sent state m.kind before in
     ap (λ (rs : List ShownRecord). shown.Sent second m.octets.now ∷ rs)
-    (map-append (λ n. n.shown) (change m.packet second state led) (numbered_in (state_then state led) (just_sent state m.kind before) later)
-    ∙ ap (λ rs. rs ++ map (λ n. n.shown) (numbered_in (state_then state led) (just_sent state m.kind before) later)) (change_shown m.packet second state led)
+    (map-append (λ n. n.shown) (change (moment_in m) second state led) (numbered_in (state_then state led) (just_sent state m.kind before) later)
+    ∙ ap (λ rs. rs ++ map (λ n. n.shown) (numbered_in (state_then state led) (just_sent state m.kind before) later)) (change_shown (moment_in m) second state led)
     ∙ ap (λ rs. changed_to second state led ++ rs) (same_records (state_then state led) (just_sent state m.kind before) later))
 same_records state before (Passed second (Ended e) ∷ later) =
     let Records : List Event → List ShownRecord = λ v.
@@ -49,11 +51,11 @@ same_records state before (Passed second (Ended e) ∷ later) =
     let ended = state_then state (led_by_end state) in
     let left = led_by_left state (are_left (received_in (items_in later))) in
     let rest = numbered_in (state_then ended left) Other later in
-    map-append (λ n. n.shown) (change e.packet second state (led_by_end state)) (change e.packet second ended left ++ rest)
-    ∙ ap (λ rs. rs ++ map (λ n. n.shown) (change e.packet second ended left ++ rest)) (change_shown e.packet second state (led_by_end state))
+    map-append (λ n. n.shown) (change (end_moment e) second state (led_by_end state)) (change (end_moment e) second ended left ++ rest)
+    ∙ ap (λ rs. rs ++ map (λ n. n.shown) (change (end_moment e) second ended left ++ rest)) (change_shown (end_moment e) second state (led_by_end state))
     ∙ ap (λ rs. changed_to second state (led_by_end state) ++ rs)
-    (map-append (λ n. n.shown) (change e.packet second ended left) rest
-    ∙ ap (λ rs. rs ++ map (λ n. n.shown) rest) (change_shown e.packet second ended left)
+    (map-append (λ n. n.shown) (change (end_moment e) second ended left) rest
+    ∙ ap (λ rs. rs ++ map (λ n. n.shown) rest) (change_shown (end_moment e) second ended left)
     ∙ ap (λ rs. changed_to second ended left ++ rs) (same_records (state_then ended left) Other later))
     ∙ sym (append_assoc (changed_to second state (led_by_end state)) (changed_to second ended left) (records_in (state_then ended left) Other later []))
     ∙ ap Records (sym (append-nil later))

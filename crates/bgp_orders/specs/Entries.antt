@@ -9,6 +9,7 @@ use Rattle.bgp_recording.specs.declared.standing.Before.TheVariants.{Other}
 use Rattle.bgp_recording.specs.declared.state.State.{State}
 use Rattle.bgp_recording.specs.Allowed.{Item}
 use Rattle.bgp_recording.specs.Captured.{records_of}
+use Rattle.bgp_recording.specs.Moments.{opening_moment}
 use Rattle.bgp_recording.specs.States.{state_number}
 use Rattle.bgp_recording.specs.Tells.{Event, Passed, Numbered, second_behind}
 use Rattle.bgp_recording.specs.Tells.{numbered_in, numbered_of, numbered_with}
@@ -23,7 +24,7 @@ use Rattle.bgp_orders.specs.Ways.{IsWay, records_of_way}
 -- the first packet, and those of the messages and the end.
 abbrev pub numbered_of_way : Exchange → State → List Event → List Numbered
 numbered_of_way exchange start events =
-    numbered_with exchange.packet (shown.Changed exchange.second 1 (state_number start))
+    numbered_with (opening_moment exchange) (shown.Changed exchange.second 1 (state_number start))
     ∷ numbered_in start Other events
 
 -- the entries are those of some way

@@ -11,6 +11,7 @@ use Rattle.bgp_recording.specs.Changes.{led_by_received, led_by_sent, are_left, 
 use Rattle.bgp_recording.specs.Changes.{is_answered_before_open, just_received, just_sent}
 use Rattle.bgp_recording.specs.First.{IsFirst}
 use Rattle.bgp_recording.specs.Leads.{MayReceiveNext, MaySendNext, MayEndNext}
+use Rattle.bgp_recording.specs.Moments.{end_moment, moment_in}
 use Rattle.bgp_orders.specs.declared.node.Spot.{Spot}
 use Rattle.bgp_orders.specs.declared.search.Ending.{Ending}
 use Rattle.bgp_orders.specs.declared.search.Turn.{Turn}
@@ -75,7 +76,7 @@ pub record Hearing (exchange : Exchange) (spot : Spot) (turn : Turn) : Type 0 wh
   pub message : Message
   pub first : IsFirst (drop spot.place.received exchange.received.now) message
   pub may : MayReceiveNext (pending_at exchange spot)
-  pub packet : turn.packet ≡ message.packet
+  pub moment : turn.moment ≡ moment_in message
   pub shows : shown_of turn.record
       ≡ shown.Received (heard_spot exchange spot message).last message.octets.now
   pub led : turn.led ≡ led_at exchange spot message
@@ -86,7 +87,7 @@ pub record Saying (within : ℕ) (exchange : Exchange) (spot : Spot) (turn : Tur
   pub message : Message
   pub first : IsFirst (drop spot.place.sent exchange.sent.now) message
   pub may : MaySendNext within (pending_at exchange spot)
-  pub packet : turn.packet ≡ message.packet
+  pub moment : turn.moment ≡ moment_in message
   pub shows : shown_of turn.record ≡ shown.Sent message.second message.octets.now
   pub led : turn.led ≡ led_by_sent spot.state message.kind spot.before
   pub leads : turn.spot ≡ said_spot spot message
@@ -97,6 +98,6 @@ pub record Closing (within : ℕ) (exchange : Exchange) (spot : Spot) (ending : 
   pub end : End
   pub is : exchange.end ≡ Some end
   pub may : MayEndNext within (pending_at exchange spot)
-  pub packet : ending.packet ≡ end.packet
+  pub moment : ending.moment ≡ end_moment end
   pub left : ending.are_left ≡ left_at exchange spot
   pub leads : ending.spot ≡ ended_spot exchange spot end

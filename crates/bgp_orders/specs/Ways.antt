@@ -14,6 +14,7 @@ use Rattle.bgp_recording.specs.Allowed.{Received, Sent, Ended, IsAllowed, receiv
 use Rattle.bgp_recording.specs.Changes.{led_by_received, led_by_sent, led_by_end, led_by_left}
 use Rattle.bgp_recording.specs.Changes.{is_answered_before_open, just_received, just_sent}
 use Rattle.bgp_recording.specs.Changes.{are_left, opened_state, state_then}
+use Rattle.bgp_recording.specs.Moments.{opening_moment}
 use Rattle.bgp_recording.specs.States.{state_number}
 use Rattle.bgp_recording.specs.Tells.{Event, Passed, AreTimed, Tells, items_in}
 use Rattle.bgp_recording.specs.Tells.{Numbered}
@@ -100,7 +101,7 @@ records_of_way second start events = records_of_front second start events []
 abbrev pub MadeIsAWay : Type 0
 MadeIsAWay =
     (within : ℕ) (exchange : Exchange) (numbered : List Numbered)
-    → Tells within exchange.opened_by exchange.packet exchange.second exchange.received.now
+    → Tells within exchange.opened_by (opening_moment exchange) exchange.received.now
     exchange.sent.now exchange.end numbered
     → (events : List Event) × IsWay within exchange (opened_state exchange.opened_by) events
     × (map (λ n. n.shown) numbered

@@ -13,7 +13,7 @@ use crate::leading::{led_by_end, led_by_left};
 use crate::node::{Spot, first_spot};
 use crate::search::{Ending, Search, Turn, state_then};
 use bgp_prefix::Seconds;
-use bgp_recording::{Entry, Exchange, State};
+use bgp_recording::{Entry, Exchange, Moment, State};
 use mrt::Record;
 use std::alloc::{AllocError, Allocator};
 
@@ -36,19 +36,17 @@ pub(crate) struct Course<'a, A: Allocator> {
 /// Appends the change to the state that is led to, if one is.
 fn put_change<A: Allocator>(
     entries: &mut Vec<Entry<'_>, A>,
-    packet: u64,
+    moment: Moment,
     second: Seconds,
     state: State,
     led: Option<State>,
 ) -> Result<(), AllocError>
     ensures { OnOk result (map numbered_of entries.new.items
-        ≡ map numbered_of entries.old.items ++ change packet second state led) }
+        ≡ map numbered_of entries.old.items ++ change moment second state led) }
 {
     if let Some(led) = led {
-        entries.push(Entry {
-            packet,
-            record: Record::Change(second, state.number(), led.number()),
-        })?;
+        let record = Record::Change(second, state.number(), led.number());
+        entries.push(Entry::new(moment, record))?;
     }
     Ok(())
 }
@@ -67,7 +65,7 @@ fn begun<'a, A: Allocator>(
     let second = exchange.second;
     put_change(
         &mut entries,
-        exchange.packet,
+        exchange.first_packet(),
         second,
         State::Idle,
         Some(start),
@@ -83,18 +81,15 @@ impl<'a, A: Allocator> Course<'a, A> {
     fn put_message(&mut self, turn: Turn<'a>) -> Result<(), AllocError>
         ensures entries { OnOk result (map numbered_of self.new.entries.items
             ≡ map numbered_of self.old.entries.items
-            ++ numbered_with turn.entry.packet (shown_of turn.entry.record)
-            ∷ change turn.entry.packet turn.entry.spot.last self.old.spot.state turn.entry.led) }
+            ++ numbered_with turn.entry.moment (shown_of turn.entry.record)
+            ∷ change turn.entry.moment turn.entry.spot.last self.old.spot.state turn.entry.led) }
         ensures spot { OnOk result (self.new.spot ≡ turn.entry.spot) }
     {
         let state = self.spot.state;
-        self.entries.push(Entry {
-            packet: turn.packet,
-            record: turn.record,
-        })?;
+        self.entries.push(Entry::new(turn.moment, turn.record))?;
         put_change(
             &mut self.entries,
-            turn.packet,
+            turn.moment,
             turn.spot.last,
             state,
             turn.led,
@@ -107,9 +102,9 @@ impl<'a, A: Allocator> Course<'a, A> {
     fn put_end(&mut self, ending: Ending) -> Result<(), AllocError>
         ensures entries { OnOk result (map numbered_of self.new.entries.items
             ≡ map numbered_of self.old.entries.items
-            ++ (change ending.packet ending.spot.last self.old.spot.state
+            ++ (change ending.moment ending.spot.last self.old.spot.state
             (led_by_end self.old.spot.state)
-            ++ change ending.packet ending.spot.last
+            ++ change ending.moment ending.spot.last
             (state_then self.old.spot.state (led_by_end self.old.spot.state))
             (led_by_left self.old.spot.state ending.are_left))) }
         ensures spot { OnOk result (self.new.spot ≡ ending.spot) }
@@ -119,8 +114,8 @@ impl<'a, A: Allocator> Course<'a, A> {
         let led = led_by_end(state);
         let ended = state_then(state, led);
         let left = led_by_left(state, ending.are_left);
-        put_change(&mut self.entries, ending.packet, second, state, led)?;
-        put_change(&mut self.entries, ending.packet, second, ended, left)?;
+        put_change(&mut self.entries, ending.moment, second, state, led)?;
+        put_change(&mut self.entries, ending.moment, second, ended, left)?;
         self.spot = ending.spot;
         Ok(())
     }

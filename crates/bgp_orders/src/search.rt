@@ -24,7 +24,7 @@ use bgp_judge::{PlainMember, next_members};
 use bgp_machine::State as Session;
 use bgp_open::Config;
 use bgp_prefix::Seconds;
-use bgp_recording::{Before, Exchange, Message, Pending, Place, State};
+use bgp_recording::{Before, Exchange, Message, Moment, Pending, Place, State};
 use bgp_wire::MessageType;
 use mrt::Record;
 use std::alloc::{AllocError, Allocator};
@@ -154,7 +154,7 @@ fn after_end<A: Allocator + Copy>(
 #[derive(Clone, Copy)]
 pub(crate) struct Turn<'a> {
     /// The packet that shows the message.
-    pub(crate) packet: u64,
+    pub(crate) moment: Moment,
     /// The message's record.
     pub(crate) record: Record<'a>,
     /// The state to which it leads, if to another.
@@ -167,7 +167,7 @@ pub(crate) struct Turn<'a> {
 #[derive(Clone, Copy)]
 pub(crate) struct Ending {
     /// The packet that shows it.
-    pub(crate) packet: u64,
+    pub(crate) moment: Moment,
     /// Received messages are left behind it.
     pub(crate) are_left: bool,
     /// The spot behind it.
@@ -250,7 +250,7 @@ impl<'a> Search<'_, 'a> {
         let is_answered = is_answered(message.kind, self.exchange.sent, spot.place.sent);
         let led = led_by_received(spot.state, message.kind, is_answered);
         Some(Turn {
-            packet: message.packet,
+            moment: message.moment(),
             record: Record::In(second, message.octets),
             led,
             spot: Spot {
@@ -279,7 +279,7 @@ impl<'a> Search<'_, 'a> {
         let message = next_of(self.exchange.sent, spot.place.sent)?;
         let led = led_by_sent(spot.state, message.kind, spot.before);
         Some(Turn {
-            packet: message.packet,
+            moment: message.moment(),
             record: Record::Out(message.second, message.octets),
             led,
             spot: Spot {
@@ -311,7 +311,7 @@ impl<'a> Search<'_, 'a> {
         let left = led_by_left(spot.state, are_left);
         let ended = state_then(spot.state, led);
         Some(Ending {
-            packet: end.packet,
+            moment: Moment::of_end(end),
             are_left,
             spot: Spot {
                 place: spot.place,

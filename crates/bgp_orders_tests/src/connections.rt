@@ -15,6 +15,7 @@ const REJECTING: Connection<'static> = Connection {
     opened_by: Side::Local,
     packet: 1,
     second: 100,
+    micro: Some(7),
     received: Stream {
         octets: &[],
         runs: &[],
@@ -25,11 +26,13 @@ const REJECTING: Connection<'static> = Connection {
             count: 21,
             packet: 4,
             second: 101,
+            micro: Some(999_999),
         }],
     },
     end: Some(End {
         packet: 5,
         second: 101,
+        micro: Some(999_999),
         side: Side::Local,
         closing: Closing::Fin,
     }),

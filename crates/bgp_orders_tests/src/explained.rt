@@ -31,6 +31,7 @@ const OPEN_CAME: Message<'static> = Message {
     kind: Some(MessageType::Open),
     packet: 4,
     second: 100,
+    micro: None,
 };
 
 const OPEN_SENT: Message<'static> = Message {
@@ -38,6 +39,7 @@ const OPEN_SENT: Message<'static> = Message {
     kind: Some(MessageType::Open),
     packet: 5,
     second: 100,
+    micro: None,
 };
 
 const KEEPALIVE_SENT: Message<'static> = Message {
@@ -45,6 +47,7 @@ const KEEPALIVE_SENT: Message<'static> = Message {
     kind: Some(MessageType::Keepalive),
     packet: 6,
     second: 100,
+    micro: None,
 };
 
 const KEEPALIVE_CAME: Message<'static> = Message {
@@ -52,6 +55,7 @@ const KEEPALIVE_CAME: Message<'static> = Message {
     kind: Some(MessageType::Keepalive),
     packet: 7,
     second: 101,
+    micro: None,
 };
 
 /// What comes behind them.
@@ -60,6 +64,7 @@ const ROUTE_CAME: Message<'static> = Message {
     kind: Some(MessageType::Update),
     packet: 8,
     second: 102,
+    micro: None,
 };
 
 const FAULT_CAME: Message<'static> = Message {
@@ -67,6 +72,7 @@ const FAULT_CAME: Message<'static> = Message {
     kind: Some(MessageType::Update),
     packet: 8,
     second: 102,
+    micro: None,
 };
 
 const BAD_HEADER_CAME: Message<'static> = Message {
@@ -74,6 +80,7 @@ const BAD_HEADER_CAME: Message<'static> = Message {
     kind: None,
     packet: 8,
     second: 102,
+    micro: None,
 };
 
 const ROUTE_CAME_LATER: Message<'static> = Message {
@@ -81,6 +88,7 @@ const ROUTE_CAME_LATER: Message<'static> = Message {
     kind: Some(MessageType::Update),
     packet: 9,
     second: 102,
+    micro: None,
 };
 
 const OPEN_AGAIN: Message<'static> = Message {
@@ -88,6 +96,7 @@ const OPEN_AGAIN: Message<'static> = Message {
     kind: Some(MessageType::Open),
     packet: 8,
     second: 102,
+    micro: None,
 };
 
 const OPEN_LATE: Message<'static> = Message {
@@ -95,6 +104,7 @@ const OPEN_LATE: Message<'static> = Message {
     kind: Some(MessageType::Open),
     packet: 5,
     second: 115,
+    micro: None,
 };
 
 /// An exchange, how much of it is explained, and in which state the session ends if some way is
@@ -121,6 +131,7 @@ const KEEPALIVE_9_AT_110: Message<'static> = Message {
     kind: Some(MessageType::Keepalive),
     packet: 9,
     second: 110,
+    micro: None,
 };
 
 const KEEPALIVE_10_AT_120: Message<'static> = Message {
@@ -128,6 +139,7 @@ const KEEPALIVE_10_AT_120: Message<'static> = Message {
     kind: Some(MessageType::Keepalive),
     packet: 10,
     second: 120,
+    micro: None,
 };
 
 const KEEPALIVE_9_AT_112: Message<'static> = Message {
@@ -135,6 +147,7 @@ const KEEPALIVE_9_AT_112: Message<'static> = Message {
     kind: Some(MessageType::Keepalive),
     packet: 9,
     second: 112,
+    micro: None,
 };
 
 const KEEPALIVE_9_AT_113: Message<'static> = Message {
@@ -142,6 +155,7 @@ const KEEPALIVE_9_AT_113: Message<'static> = Message {
     kind: Some(MessageType::Keepalive),
     packet: 9,
     second: 113,
+    micro: None,
 };
 
 const KEEPALIVE_10_AT_183: Message<'static> = Message {
@@ -149,6 +163,7 @@ const KEEPALIVE_10_AT_183: Message<'static> = Message {
     kind: Some(MessageType::Keepalive),
     packet: 10,
     second: 183,
+    micro: None,
 };
 
 const KEEPALIVE_10_AT_181: Message<'static> = Message {
@@ -156,6 +171,7 @@ const KEEPALIVE_10_AT_181: Message<'static> = Message {
     kind: Some(MessageType::Keepalive),
     packet: 10,
     second: 181,
+    micro: None,
 };
 
 const KEEPALIVE_8_AT_102: Message<'static> = Message {
@@ -163,6 +179,7 @@ const KEEPALIVE_8_AT_102: Message<'static> = Message {
     kind: Some(MessageType::Keepalive),
     packet: 8,
     second: 102,
+    micro: None,
 };
 
 const KEEPALIVE_6_AT_116: Message<'static> = Message {
@@ -170,6 +187,7 @@ const KEEPALIVE_6_AT_116: Message<'static> = Message {
     kind: Some(MessageType::Keepalive),
     packet: 6,
     second: 116,
+    micro: None,
 };
 
 const KEEPALIVE_5_AT_115: Message<'static> = Message {
@@ -177,6 +195,7 @@ const KEEPALIVE_5_AT_115: Message<'static> = Message {
     kind: Some(MessageType::Keepalive),
     packet: 5,
     second: 115,
+    micro: None,
 };
 
 const MALFORMED_LIST_AT_103: Message<'static> = Message {
@@ -184,6 +203,7 @@ const MALFORMED_LIST_AT_103: Message<'static> = Message {
     kind: Some(MessageType::Notification),
     packet: 10,
     second: 103,
+    micro: None,
 };
 
 const MALFORMED_LIST_AT_113: Message<'static> = Message {
@@ -191,6 +211,7 @@ const MALFORMED_LIST_AT_113: Message<'static> = Message {
     kind: Some(MessageType::Notification),
     packet: 10,
     second: 113,
+    micro: None,
 };
 
 const HOLD_TIMER_EXPIRED_AT_104: Message<'static> = Message {
@@ -198,6 +219,7 @@ const HOLD_TIMER_EXPIRED_AT_104: Message<'static> = Message {
     kind: Some(MessageType::Notification),
     packet: 9,
     second: 104,
+    micro: None,
 };
 
 const HOLD_TIMER_EXPIRED_AT_192: Message<'static> = Message {
@@ -205,6 +227,7 @@ const HOLD_TIMER_EXPIRED_AT_192: Message<'static> = Message {
     kind: Some(MessageType::Notification),
     packet: 11,
     second: 192,
+    micro: None,
 };
 
 const REJECTED_AT_101: Message<'static> = Message {
@@ -212,6 +235,7 @@ const REJECTED_AT_101: Message<'static> = Message {
     kind: Some(MessageType::Notification),
     packet: 4,
     second: 101,
+    micro: Some(999_999),
 };
 
 /// The rows.
@@ -288,6 +312,7 @@ static ROWS: [Row; 18] = [
         end: Some(End {
             packet: 11,
             second: 103,
+            micro: None,
             side: Side::Local,
             closing: Closing::Fin,
         }),
@@ -303,6 +328,7 @@ static ROWS: [Row; 18] = [
         end: Some(End {
             packet: 11,
             second: 113,
+            micro: None,
             side: Side::Local,
             closing: Closing::Fin,
         }),
@@ -348,6 +374,7 @@ static ROWS: [Row; 18] = [
         end: Some(End {
             packet: 9,
             second: 104,
+            micro: None,
             side: Side::Local,
             closing: Closing::Fin,
         }),
@@ -363,6 +390,7 @@ static ROWS: [Row; 18] = [
         end: Some(End {
             packet: 9,
             second: 114,
+            micro: None,
             side: Side::Local,
             closing: Closing::Fin,
         }),
@@ -418,6 +446,7 @@ static ROWS: [Row; 18] = [
         end: Some(End {
             packet: 5,
             second: 101,
+            micro: None,
             side: Side::Local,
             closing: Closing::Fin,
         }),
@@ -442,6 +471,7 @@ fn exchange_of(row: &Row, opened_by: Side) -> Exchange<'static, 'static> {
         opened_by,
         packet: 1,
         second: 100,
+        micro: Some(7),
         received: row.received,
         sent: row.sent,
         end: row.end,
@@ -519,14 +549,20 @@ fn entries_of_whole_ways_are_judged_yes(rt: HostRuntime) {
 pub(crate) const REJECTS: [Entry<'static>; 3] = [
     Entry {
         packet: 1,
+        second: 100,
+        micro: Some(7),
         record: Record::Change(100, 1, 3),
     },
     Entry {
         packet: 4,
+        second: 101,
+        micro: Some(999_999),
         record: Record::Out(101, &REJECTED),
     },
     Entry {
         packet: 4,
+        second: 101,
+        micro: Some(999_999),
         record: Record::Change(101, 3, 1),
     },
 ];

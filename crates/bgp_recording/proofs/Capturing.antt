@@ -41,6 +41,8 @@ use Rattle.bgp_recording.specs.declared.standing.Before.{Before}
 use Rattle.bgp_recording.specs.declared.standing.Before.TheVariants.{Other}
 use Rattle.bgp_recording.specs.declared.state.State.{State}
 use Rattle.bgp_recording.specs.declared.state.State.TheVariants.{Idle, Connect, Active, OpenSent, OpenConfirm, Established}
+use Rattle.bgp_recording.specs.declared.pending.Moment.{Moment}
+use Rattle.bgp_recording.specs.Moments.{end_moment, moment_in}
 
 -- ---- messages
 
@@ -90,10 +92,10 @@ frame_can framing octets frame = record {
 
 kind_can : (framing : Framing) (m : Message) (kind : Option MessageType) → kind ≡ m.kind → HasKind framing m → CanBeMessage framing m.octets.now
 kind_can framing m None is h =
-    let g = subst (λ (k : Option MessageType). HasKind framing record { octets = m.octets; kind = k; packet = m.packet; second = m.second }) (sym is) h in
+    let g = subst (λ (k : Option MessageType). HasKind framing record { octets = m.octets; kind = k; packet = m.packet; second = m.second; micro = m.micro }) (sym is) h in
     faulty_can framing m.octets.now g.0 g.1
 kind_can framing m (Some kind) is h =
-    let g = subst (λ (k : Option MessageType). HasKind framing record { octets = m.octets; kind = k; packet = m.packet; second = m.second }) (sym is) h in
+    let g = subst (λ (k : Option MessageType). HasKind framing record { octets = m.octets; kind = k; packet = m.packet; second = m.second; micro = m.micro }) (sym is) h in
     frame_can framing m.octets.now g.0
 
 -- ---- records
@@ -206,32 +208,32 @@ is_state OpenSent = (omega arith, omega arith)
 is_state OpenConfirm = (omega arith, omega arith)
 is_state Established = (omega arith, omega arith)
 
-change_can : (framings : Framings) (packet second : ℕ) (state : State) (led : Option State) (rest : List Numbered) → AllByRecursion (CanBeRecord framings) (shown_in rest)
-    → AllByRecursion (CanBeRecord framings) (shown_in (change packet second state led ++ rest))
-change_can framings packet second state None rest h = h
-change_can framings packet second state (Some led) rest h = ((is_state state, is_state led), h)
+change_can : (framings : Framings) (moment : Moment) (second : ℕ) (state : State) (led : Option State) (rest : List Numbered) → AllByRecursion (CanBeRecord framings) (shown_in rest)
+    → AllByRecursion (CanBeRecord framings) (shown_in (change moment second state led ++ rest))
+change_can framings moment second state None rest h = h
+change_can framings moment second state (Some led) rest h = ((is_state state, is_state led), h)
 
 events_can : (framings : Framings) (events : List Event) (state : State) (before : Before) → AllByRecursion (HasKind framings.received) (received_in (items_in events))
     → AllByRecursion (HasKind framings.sent) (sent_in (items_in events)) → AllByRecursion (CanBeRecord framings) (shown_in (numbered_in state before events))
 events_can framings [] state before received sent = tt
 events_can framings (Passed second (Received m) ∷ later) state before received sent = (
   kind_can framings.received m m.kind refl received.0,
-  change_can framings m.packet second state (led_by_received state m.kind (is_answered_before_open m.kind (sent_in (items_in later)))) _ (events_can framings later _ (just_received m.kind) received.1 sent),
+  change_can framings (moment_in m) second state (led_by_received state m.kind (is_answered_before_open m.kind (sent_in (items_in later)))) _ (events_can framings later _ (just_received m.kind) received.1 sent),
 )
 events_can framings (Passed second (Sent m) ∷ later) state before received sent =
-    (kind_can framings.sent m m.kind refl sent.0, change_can framings m.packet second state (led_by_sent state m.kind before) _ (events_can framings later _ (just_sent state m.kind before) received sent.1))
+    (kind_can framings.sent m m.kind refl sent.0, change_can framings (moment_in m) second state (led_by_sent state m.kind before) _ (events_can framings later _ (just_sent state m.kind before) received sent.1))
 events_can framings (Passed second (Ended e) ∷ later) state before received sent =
-    change_can framings e.packet second state (led_by_end state) _
-    (change_can framings e.packet second (state_then state (led_by_end state)) (led_by_left state (are_left (received_in (items_in later)))) _ (events_can framings later _ Other received sent))
+    change_can framings (end_moment e) second state (led_by_end state) _
+    (change_can framings (end_moment e) second (state_then state (led_by_end state)) (led_by_left state (are_left (received_in (items_in later)))) _ (events_can framings later _ Other received sent))
 
 from_later : (least second : ℕ) (records : List ShownRecord) → least ≤ second → AreInOrder second records → AreInOrder least records
 from_later least second [] le h = tt
 from_later least second (r ∷ rs) le h = (omega (arith, le, h.0), h.1)
 
-change_order : (least second packet : ℕ) (state : State) (led : Option State) (rest : List Numbered) → least ≤ second → AreInOrder second (shown_in rest)
-    → AreInOrder least (shown_in (change packet second state led ++ rest))
-change_order least second packet state None rest le h = from_later least second (shown_in rest) le h
-change_order least second packet state (Some led) rest le h = (le, h)
+change_order : (least second : ℕ) (moment : Moment) (state : State) (led : Option State) (rest : List Numbered) → least ≤ second → AreInOrder second (shown_in rest)
+    → AreInOrder least (shown_in (change moment second state led ++ rest))
+change_order least second moment state None rest le h = from_later least second (shown_in rest) le h
+change_order least second moment state (Some led) rest le h = (le, h)
 
 same_second : (second : ℕ) → second ≤ second
 same_second second = omega arith
@@ -240,14 +242,14 @@ events_order : (least : ℕ) (events : List Event) (state : State) (before : Bef
 events_order least [] state before h = tt
 events_order least (Passed second (Received m) ∷ later) state before h = (
   h.0,
-  change_order second second m.packet state (led_by_received state m.kind (is_answered_before_open m.kind (sent_in (items_in later)))) _ (same_second second)
+  change_order second second (moment_in m) state (led_by_received state m.kind (is_answered_before_open m.kind (sent_in (items_in later)))) _ (same_second second)
       (events_order second later _ (just_received m.kind) h.2),
 )
 events_order least (Passed second (Sent m) ∷ later) state before h =
-    (h.0, change_order second second m.packet state (led_by_sent state m.kind before) _ (same_second second) (events_order second later _ (just_sent state m.kind before) h.2))
+    (h.0, change_order second second (moment_in m) state (led_by_sent state m.kind before) _ (same_second second) (events_order second later _ (just_sent state m.kind before) h.2))
 events_order least (Passed second (Ended e) ∷ later) state before h =
-    change_order least second e.packet state (led_by_end state) _ h.0
-    (change_order second second e.packet (state_then state (led_by_end state)) (led_by_left state (are_left (received_in (items_in later)))) _ (same_second second)
+    change_order least second (end_moment e) state (led_by_end state) _ h.0
+    (change_order second second (end_moment e) (state_then state (led_by_end state)) (led_by_left state (are_left (received_in (items_in later)))) _ (same_second second)
     (events_order second later _ Other h.2))
 
 same_records : (entries : List Entry) → shown_in (map numbered_of entries) ≡ records_of entries

@@ -7,7 +7,8 @@ use Rattle.std.specs.List.{AllByRecursion}
 use Rattle.streams.specs.declared.connection.Run.{Run}
 use Rattle.bgp_recording.specs.declared.pending.Moment.{Moment}
 use Rattle.bgp_recording.specs.First.{IsFirst}
-use Rattle.bgp_recording.specs.Givers.{moment_of, IsNotEmpty, giver, given_by, IsMade, IsLatest, AreLatest, IsEarliest, AreEarliest, later_of, earlier_of}
+use Rattle.bgp_recording.specs.Givers.{IsNotEmpty, giver, given_by, IsMade, IsLatest, AreLatest, IsEarliest, AreEarliest, later_of, earlier_of}
+use Rattle.bgp_recording.specs.Moments.{moment_of}
 use Rattle.bgp_recording.proofs.Lists.{first_is}
 
 pub giver_here : (run : Run) (later : List Run) (place : ℕ) → place < run.count → giver (run ∷ later) place ≡ Some (moment_of run)
@@ -24,7 +25,7 @@ giver_after run later place =
 
 -- the same octets, by another packet
 abbrev pub by_moment : Run → Moment → Run
-by_moment run moment = record { count = run.count; packet = moment.packet; second = moment.second }
+by_moment run moment = record { count = run.count; packet = moment.packet; second = moment.second; micro = moment.micro }
 
 -- what holds of a run's giver holds of that of its first places
 held_here : (P : Moment → Type 0) (run : Run) (later : List Run) (place : ℕ) → place < run.count → P (moment_of run) → IfSome (giver (run ∷ later) place) P

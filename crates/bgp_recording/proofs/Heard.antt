@@ -11,11 +11,12 @@ use Rattle.bgp_recording.specs.declared.framing.Direction.TheVariants.{Received,
 use Rattle.bgp_recording.specs.declared.framing.Framing.{Framing}
 use Rattle.bgp_recording.specs.declared.message.Message.{Message}
 use Rattle.bgp_recording.specs.declared.pending.Moment.{Moment}
-use Rattle.bgp_recording.specs.Framed.{EachAt, HasKind, IsStamped, moment_in}
+use Rattle.bgp_recording.specs.Framed.{EachAt, HasKind, IsStamped}
 use Rattle.bgp_recording.specs.Gathered.{GoesFrom, AreCame, AreMade}
-use Rattle.bgp_recording.specs.Givers.{moment_of, giver, IsLatest, IsEarliest, AreLatest, AreEarliest, IsCame, IsMade, own_end, own_end_by}
+use Rattle.bgp_recording.specs.Givers.{giver, IsLatest, IsEarliest, AreLatest, AreEarliest, IsCame, IsMade, own_end, own_end_by}
 use Rattle.bgp_recording.specs.Pieces.{Piece, Kept, PassedOver}
 use Rattle.bgp_recording.specs.Told.{GoesBy, Rises, IsLast}
+use Rattle.bgp_recording.specs.Moments.{end_moment, moment_in, moment_of}
 use Rattle.bgp_recording.proofs.Gave.{giver_here, giver_there}
 
 -- ---- each message at its place
@@ -45,8 +46,8 @@ each_at_all P Q start f from (PassedOver octets ∷ pieces) messages le h = each
 -- ---- stamped messages
 
 kind_long : (framing : Framing) (m : Message) (kind : Option MessageType) → kind ≡ m.kind → HasKind framing m → 19 ≤ length m.octets.now
-kind_long framing m None is h = (subst (λ (k : Option MessageType). HasKind framing record { octets = m.octets; kind = k; packet = m.packet; second = m.second }) (sym is) h).1.faulty.0
-kind_long framing m (Some kind) is h = (subst (λ (k : Option MessageType). HasKind framing record { octets = m.octets; kind = k; packet = m.packet; second = m.second }) (sym is) h).0.header
+kind_long framing m None is h = (subst (λ (k : Option MessageType). HasKind framing record { octets = m.octets; kind = k; packet = m.packet; second = m.second; micro = m.micro }) (sym is) h).1.faulty.0
+kind_long framing m (Some kind) is h = (subst (λ (k : Option MessageType). HasKind framing record { octets = m.octets; kind = k; packet = m.packet; second = m.second; micro = m.micro }) (sym is) h).0.header
 
 latest_at : (runs latest : List Run) (place : ℕ) (moment : Moment) → AreLatest runs latest → giver latest place ≡ Some moment → IsCame runs (place + 1) moment
 latest_at runs latest place moment h e = subst (λ (o : Option Moment). IsLatest runs place o) e (h place)
@@ -81,6 +82,12 @@ all_given P (run ∷ later) place h =
 
 pub at_giver : (P : Moment → Type 0) (runs : List Run) (place : ℕ) (moment : Moment) → IfSome (giver runs place) P → giver runs place ≡ Some moment → P moment
 at_giver P runs place moment h e = subst (λ (o : Option Moment). IfSome o P) e h
+
+pub came_each : (P : Moment → Type 0) (runs : List Run) (from : ℕ) (pieces : List Piece) (messages : List Message) → AllByRecursion (λ run. P (moment_of run)) runs
+    → AreCame runs from pieces messages → AllByRecursion (λ m. P (moment_in m)) messages
+came_each P runs from pieces messages each h =
+    each_at_all (λ place m. IsCame runs (place + length m.octets.now) (moment_in m)) (λ m. P (moment_in m)) 0
+    (λ place m le came. at_giver P runs came.place (moment_in m) (all_given P runs came.place each) came.gave) from pieces messages (omega arith) h
 
 pub came_by : (clock : ℕ → ℕ) (first : ℕ) (runs : List Run) (from : ℕ) (pieces : List Piece) (messages : List Message)
     → AllByRecursion (λ run. GoesFrom clock first run.packet run.second) runs → AreCame runs from pieces messages → AllByRecursion (GoesBy clock) messages
@@ -129,7 +136,7 @@ made_rise runs end from (Kept octets ∷ pieces) (m ∷ later) h = (
 )
 made_rise runs end from (PassedOver octets ∷ pieces) messages h = made_rise runs end (from + length octets) pieces messages h
 
-own_is : (end : End) (side : Side) → side ≡ Local → own_end_by end side ≡ Some record { packet = end.packet; second = end.second }
+own_is : (end : End) (side : Side) → side ≡ Local → own_end_by end side ≡ Some (end_moment end)
 own_is end Local e = refl
 own_is end Peer e = cc
 
@@ -142,12 +149,12 @@ not_after_end runs end last from pieces messages e h =
 pub made_last : (runs : List Run) (end : Option End) (pieces : List Piece) (messages : List Message) → AreMade runs (own_end end) 0 pieces messages → IfSome end (IsLast messages)
 made_last runs None pieces messages h = tt
 made_last runs (Some end) pieces messages h =
-    λ own. not_after_end runs (own_end_by end end.side) record { packet = end.packet; second = end.second } 0 pieces messages (own_is end end.side own) h
+    λ own. not_after_end runs (own_end_by end end.side) (end_moment end) 0 pieces messages (own_is end end.side own) h
 
-own_by : (P : Moment → Type 0) (end : End) (side : Side) → P record { packet = end.packet; second = end.second } → IfSome (own_end_by end side) P
+own_by : (P : Moment → Type 0) (end : End) (side : Side) → P (end_moment end) → IfSome (own_end_by end side) P
 own_by P end Local h = h
 own_by P end Peer h = tt
 
-pub own_end_is : (P : Moment → Type 0) (end : Option End) → IfSome end (λ e. P record { packet = e.packet; second = e.second }) → IfSome (own_end end) P
+pub own_end_is : (P : Moment → Type 0) (end : Option End) → IfSome end (λ e. P (end_moment e)) → IfSome (own_end end) P
 own_end_is P None h = tt
 own_end_is P (Some end) h = own_by P end end.side h

@@ -13,6 +13,7 @@ use Rattle.bgp_recording.specs.declared.message.Message.{Message}
 use Rattle.bgp_recording.specs.declared.standing.Before.{Before}
 use Rattle.bgp_recording.specs.declared.standing.Before.TheVariants.{Other}
 use Rattle.bgp_recording.specs.declared.state.State.{State}
+use Rattle.bgp_recording.specs.declared.pending.Moment.{Moment}
 use Rattle.bgp_recording.specs.Allowed.{Received, Sent, Ended, received_in, sent_in}
 use Rattle.bgp_recording.specs.Captured.{records_of}
 use Rattle.bgp_recording.specs.Changes.{led_by_received, led_by_sent, led_by_end, led_by_left, is_answered_before_open, just_received, just_sent, are_left, opened_state, state_then}
@@ -20,6 +21,7 @@ use Rattle.bgp_recording.specs.Framed.{octets_of, AreFramed, IsRest}
 use Rattle.bgp_recording.specs.Joined.{received_octets, sent_octets, IsLeft, IsWhole, MayStand, MadeRecordsAreTheStreams}
 use Rattle.bgp_recording.specs.Pieces.{Piece, Kept, PassedOver, stream_of, passed_over, IsPiece}
 use Rattle.bgp_recording.specs.Tells.{Numbered, Event, Passed, items_in, numbered_in, change, opening}
+use Rattle.bgp_recording.specs.Moments.{end_moment, first_moment, moment_in}
 use Rattle.bgp_recording.proofs.Capturing.{shown_in, entries_are}
 use Rattle.bgp_recording.proofs.Lists.{all_append, all_weaker}
 use Rattle.bgp_recording.proofs.Pieces.{stream_on, kept_on, passed_on}
@@ -28,33 +30,33 @@ abbrev messages_joined : List Message → List ℕ
 messages_joined messages = joined (octets_of messages)
 
 -- a change has no octets
-received_change : (packet second : ℕ) (state : State) (led : Option State) (rest : List Numbered)
-    → received_octets (shown_in (change packet second state led ++ rest)) ≡ received_octets (shown_in rest)
-received_change packet second state None rest = refl
-received_change packet second state (Some led) rest = refl
+received_change : (moment : Moment) (second : ℕ) (state : State) (led : Option State) (rest : List Numbered)
+    → received_octets (shown_in (change moment second state led ++ rest)) ≡ received_octets (shown_in rest)
+received_change moment second state None rest = refl
+received_change moment second state (Some led) rest = refl
 
-sent_change : (packet second : ℕ) (state : State) (led : Option State) (rest : List Numbered) → sent_octets (shown_in (change packet second state led ++ rest)) ≡ sent_octets (shown_in rest)
-sent_change packet second state None rest = refl
-sent_change packet second state (Some led) rest = refl
+sent_change : (moment : Moment) (second : ℕ) (state : State) (led : Option State) (rest : List Numbered) → sent_octets (shown_in (change moment second state led ++ rest)) ≡ sent_octets (shown_in rest)
+sent_change moment second state None rest = refl
+sent_change moment second state (Some led) rest = refl
 
 received_are : (events : List Event) (state : State) (before : Before) → received_octets (shown_in (numbered_in state before events)) ≡ messages_joined (received_in (items_in events))
 received_are [] state before = refl
 received_are (Passed second (Received m) ∷ later) state before =
-    ap (λ (os : List ℕ). m.octets.now ++ os) (received_change m.packet second state (led_by_received state m.kind (is_answered_before_open m.kind (sent_in (items_in later)))) _ ∙ received_are later _ (just_received m.kind))
-received_are (Passed second (Sent m) ∷ later) state before = received_change m.packet second state (led_by_sent state m.kind before) _ ∙ received_are later _ (just_sent state m.kind before)
+    ap (λ (os : List ℕ). m.octets.now ++ os) (received_change (moment_in m) second state (led_by_received state m.kind (is_answered_before_open m.kind (sent_in (items_in later)))) _ ∙ received_are later _ (just_received m.kind))
+received_are (Passed second (Sent m) ∷ later) state before = received_change (moment_in m) second state (led_by_sent state m.kind before) _ ∙ received_are later _ (just_sent state m.kind before)
 received_are (Passed second (Ended e) ∷ later) state before =
-    received_change e.packet second state (led_by_end state) _
-    ∙ received_change e.packet second (state_then state (led_by_end state)) (led_by_left state (are_left (received_in (items_in later)))) _ ∙ received_are later _ Other
+    received_change (end_moment e) second state (led_by_end state) _
+    ∙ received_change (end_moment e) second (state_then state (led_by_end state)) (led_by_left state (are_left (received_in (items_in later)))) _ ∙ received_are later _ Other
 
 sent_are : (events : List Event) (state : State) (before : Before) → sent_octets (shown_in (numbered_in state before events)) ≡ messages_joined (sent_in (items_in events))
 sent_are [] state before = refl
 sent_are (Passed second (Received m) ∷ later) state before =
-    sent_change m.packet second state (led_by_received state m.kind (is_answered_before_open m.kind (sent_in (items_in later)))) _ ∙ sent_are later _ (just_received m.kind)
+    sent_change (moment_in m) second state (led_by_received state m.kind (is_answered_before_open m.kind (sent_in (items_in later)))) _ ∙ sent_are later _ (just_received m.kind)
 sent_are (Passed second (Sent m) ∷ later) state before =
-    ap (λ (os : List ℕ). m.octets.now ++ os) (sent_change m.packet second state (led_by_sent state m.kind before) _ ∙ sent_are later _ (just_sent state m.kind before))
+    ap (λ (os : List ℕ). m.octets.now ++ os) (sent_change (moment_in m) second state (led_by_sent state m.kind before) _ ∙ sent_are later _ (just_sent state m.kind before))
 sent_are (Passed second (Ended e) ∷ later) state before =
-    sent_change e.packet second state (led_by_end state) _
-    ∙ sent_change e.packet second (state_then state (led_by_end state)) (led_by_left state (are_left (received_in (items_in later)))) _ ∙ sent_are later _ Other
+    sent_change (end_moment e) second state (led_by_end state) _
+    ∙ sent_change (end_moment e) second (state_then state (led_by_end state)) (led_by_left state (are_left (received_in (items_in later)))) _ ∙ sent_are later _ Other
 
 -- what is a piece may stand
 may_stand : (framing : Framing) (p : Piece) → IsPiece framing p → MayStand framing p
@@ -99,7 +101,7 @@ pub made_are_the_streams : MadeRecordsAreTheStreams
 made_are_the_streams framings within connection entries received_unshown sent_unshown made =
     let t = made.tells in
     let opened = opened_state connection.opened_by in
-    let records : shown_in (opening connection.opened_by connection.packet connection.second ∷ numbered_in opened Other t.events) ≡ records_of entries = entries_are _ entries t.shown in
+    let records : shown_in (opening connection.opened_by (first_moment connection) ∷ numbered_in opened Other t.events) ≡ records_of entries = entries_are _ entries t.shown in
     let received : messages_joined made.received ≡ received_octets (records_of entries) =
     ap (λ (ms : List Message). messages_joined ms) (sym t.allowed.of_received) ∙ sym (received_are t.events opened Other) ∙ ap (λ (rs : List ShownRecord). received_octets rs) records in
     let sent : messages_joined made.sent ≡ sent_octets (records_of entries) =

@@ -26,6 +26,7 @@ use Rattle.bgp_recording.specs.Tells.{Numbered, numbered_with, change}
 use Rattle.bgp_recording.specs.First.{IsFirst}
 use Rattle.bgp_recording.specs.Values.{MessageValue, message_value, values_of, code_of, first_of}
 use Rattle.bgp_recording.specs.Waiting.{notification_at, notification_from, foresight_of, reason_of, waits_for}
+use Rattle.bgp_recording.specs.Moments.{end_moment, moment_in, opening_moment}
 use Rattle.bgp_recording.proofs.UnderWay.{left_in}
 
 -- whatever stands for one that isn't there
@@ -111,9 +112,9 @@ next_received foresight within old new m taken leads shows place answering =
     let made : course_of new ≡ after_received foresight c (message_value m) (values_of new.pending.received) =
     course_same new _ _ _ _ _ _ _ _ _ refl (ap values_of leads.sent) leads.end place shows.second
     (shows.state ∙ ap (λ (o : Option State). state_then old.state o) led) answering shows.before
-    (shows.put ∙ ap (λ (o : Option State). old.numbered ++ numbered_with m.packet (shown.Received new.last m.octets.now) ∷ change m.packet new.last old.state o) led
-    ∙ ap (λ (n : ℕ). old.numbered ++ numbered_with m.packet (shown.Received n m.octets.now)
-    ∷ change m.packet n old.state (led_by_received old.state m.kind (is_answer_next m.kind (values_of old.pending.sent)))) shows.second) in
+    (shows.put ∙ ap (λ (o : Option State). old.numbered ++ numbered_with (moment_in m) (shown.Received new.last m.octets.now) ∷ change (moment_in m) new.last old.state o) led
+    ∙ ap (λ (n : ℕ). old.numbered ++ numbered_with (moment_in m) (shown.Received n m.octets.now)
+    ∷ change (moment_in m) n old.state (led_by_received old.state m.kind (is_answer_next m.kind (values_of old.pending.sent)))) shows.second) in
     made
     ∙ sym (ap (λ (ms : List MessageValue). after_turn foresight c true ms) (ap values_of leads.received))
     ∙ sym (ap (λ (b : Bool). after_turn foresight c b c.received) taken)
@@ -127,7 +128,7 @@ next_sent foresight within old new m taken leads shows place answering =
     let led = led_by_sent old.state m.kind old.before in
     let made : course_of new ≡ after_sent c (message_value m) (values_of new.pending.sent) =
     course_same new _ _ _ _ _ _ _ _ _ (ap values_of leads.received) refl leads.end place shows.second shows.state answering shows.before
-    (shows.put ∙ ap (λ (n : ℕ). old.numbered ++ numbered_with m.packet (shown.Sent n m.octets.now) ∷ change m.packet n old.state led) shows.second) in
+    (shows.put ∙ ap (λ (n : ℕ). old.numbered ++ numbered_with (moment_in m) (shown.Sent n m.octets.now) ∷ change (moment_in m) n old.state led) shows.second) in
     made
     ∙ sym (ap (λ (ms : List MessageValue). after_own c ms old.pending.end) (ap values_of leads.sent))
     ∙ sym (ap (λ (b : Bool). after_turn foresight c b c.received) taken)
@@ -144,9 +145,9 @@ next_end foresight within old new e taken leads shows place answering =
     let made : course_of new ≡ after_end c e =
     course_same new _ _ _ _ _ _ _ _ _ (ap values_of leads.received) (ap values_of (leads.sent ∙ sym leads.sent_before)) leads.end_after place shows.second
     (shows.state ∙ ap (λ (o : Option State). state_then ended o) left) answering shows.before
-    (shows.put ∙ ap (λ (o : Option State). old.numbered ++ (change e.packet new.last old.state (led_by_end old.state) ++ change e.packet new.last ended o)) left
-    ∙ ap (λ (n : ℕ). old.numbered ++ (change e.packet n old.state (led_by_end old.state)
-    ++ change e.packet n ended (led_by_left old.state (values_left (values_of old.pending.received))))) shows.second) in
+    (shows.put ∙ ap (λ (o : Option State). old.numbered ++ (change (end_moment e) new.last old.state (led_by_end old.state) ++ change (end_moment e) new.last ended o)) left
+    ∙ ap (λ (n : ℕ). old.numbered ++ (change (end_moment e) n old.state (led_by_end old.state)
+    ++ change (end_moment e) n ended (led_by_left old.state (values_left (values_of old.pending.received))))) shows.second) in
     made
     ∙ sym (ap (λ (o : Option End). after_own c [] o) leads.end_before)
     ∙ sym (ap (λ (ms : List MessageValue). after_own c ms old.pending.end) (ap values_of leads.sent_before))
@@ -256,13 +257,13 @@ IsOrdered within exchange making =
     let sent = values_of exchange.sent.now in
     after_more (left_in making.pending) (foresight_of received sent) within (course_of making)
     ≡ after_more (count_of received sent exchange.end) (foresight_of received sent) within
-    (begun_course exchange.opened_by exchange.packet exchange.second received sent exchange.end)
+    (begun_course exchange.opened_by (opening_moment exchange) received sent exchange.end)
 
 pub begins_ordered : (within : ℕ) (exchange : Exchange) (making : Making) → Begins exchange making → IsOrdered within exchange making
 begins_ordered within exchange making begun =
     let received = values_of exchange.received.now in
     let sent = values_of exchange.sent.now in
-    let course : course_of making ≡ begun_course exchange.opened_by exchange.packet exchange.second received sent exchange.end =
+    let course : course_of making ≡ begun_course exchange.opened_by (opening_moment exchange) received sent exchange.end =
     course_same making _ _ _ _ _ _ _ _ _ (ap values_of begun.received) (ap values_of begun.sent) begun.end begun.place begun.last begun.state begun.answering begun.before begun.opens in
     let count : left_in making.pending ≡ count_of received sent exchange.end = omega (
       arith,

@@ -24,16 +24,15 @@ use Rattle.bgp_recording.specs.declared.framing.Rest.TheVariants.{Short, BehindF
 use Rattle.bgp_recording.specs.declared.framing.Unshown.{Unshown}
 use Rattle.bgp_recording.specs.declared.message.Message.{Message}
 use Rattle.bgp_recording.specs.declared.pending.Moment.{Moment}
-use Rattle.bgp_recording.specs.Framed.{IsRest, AreFramed, EachAt, HasKind, moment_in, octets_of}
-use Rattle.bgp_recording.specs.Gathered.{GoesFrom, IsHeard, IsSaid, AreCame, AreMade, AreFrom}
+use Rattle.bgp_recording.specs.Framed.{IsRest, AreFramed, EachAt, HasKind, octets_of}
+use Rattle.bgp_recording.specs.Gathered.{IsHeard, IsSaid, AreCame, AreMade, AreFrom}
 use Rattle.bgp_recording.specs.Givers.{giver, IsCame, IsMade, own_end}
 use Rattle.bgp_recording.specs.MadeOrder.{made_order}
 use Rattle.bgp_recording.specs.Once.{AreSame, TellTheSame, ConnectionsAreRecordedOnce}
 use Rattle.bgp_recording.specs.Pieces.{Piece, Kept, PassedOver, octets_in, stream_of, passed_over, IsPiece, IsRefreshHeader, BeginsRefresh, IsShortOf, IsFaultyOf}
-use Rattle.bgp_recording.specs.Told.{GoesBy}
 use Rattle.bgp_recording.specs.Values.{MessageValue, message_value, values_of}
-use Rattle.bgp_recording.proofs.Heard.{at_giver, came_by, each_at_weaker, made_each, own_end_is}
-use Rattle.bgp_recording.proofs.Lists.{all_weaker}
+use Rattle.bgp_recording.specs.Moments.{end_moment, first_moment, moment_in, moment_of}
+use Rattle.bgp_recording.proofs.Heard.{at_giver, came_each, each_at_weaker, made_each, own_end_is}
 use Rattle.bgp_recording.proofs.Pieces.{frame_no_refresh, header_of_front, header_of_whole, piece_whole}
 
 -- ---- the type of a message
@@ -62,8 +61,8 @@ IsKindOf framing octets None = (length octets ≡ 19) × IsFaultyOf framing octe
 IsKindOf framing octets (Some kind) = IsFrame framing.limit octets × (type_code kind ≡ type_of (header_of octets))
 
 kind_of : (framing : Framing) (m : Message) (kind : Option MessageType) → m.kind ≡ kind → HasKind framing m → IsKindOf framing m.octets.now kind
-kind_of framing m None e h = subst (λ (k : Option MessageType). HasKind framing record { octets = m.octets; kind = k; packet = m.packet; second = m.second }) e h
-kind_of framing m (Some kind) e h = subst (λ (k : Option MessageType). HasKind framing record { octets = m.octets; kind = k; packet = m.packet; second = m.second }) e h
+kind_of framing m None e h = subst (λ (k : Option MessageType). HasKind framing record { octets = m.octets; kind = k; packet = m.packet; second = m.second; micro = m.micro }) e h
+kind_of framing m (Some kind) e h = subst (λ (k : Option MessageType). HasKind framing record { octets = m.octets; kind = k; packet = m.packet; second = m.second; micro = m.micro }) e h
 
 one_kind : (framing : Framing) (octets : List ℕ) (a b : Option MessageType) → IsKindOf framing octets a → IsKindOf framing octets b → a ≡ b
 one_kind framing octets None None h k = refl
@@ -86,11 +85,21 @@ one_made runs end start a b h k = elim k.shows [
   | inr e ↦ subst (λ (o : Option Moment). IfSome o (λ m. a.packet ≤ m.packet)) e h.not_after
 ]
 
-same_value : (m n : Message) → m.octets.now ≡ n.octets.now → m.kind ≡ n.kind → m.packet ≡ n.packet → m.second ≡ n.second → message_value m ≡ message_value n
-same_value m n e1 e2 e3 e4 = cc
+same_value : (m n : Message) → m.octets.now ≡ n.octets.now → m.kind ≡ n.kind → m.packet ≡ n.packet → m.second ≡ n.second → m.micro ≡ n.micro → message_value m ≡ message_value n
+same_value m n e1 e2 e3 e4 e5 = cc
 
-by_clock : (clock : ℕ → ℕ) (m n : Message) → m.packet ≡ n.packet → GoesBy clock m → GoesBy clock n → m.second ≡ n.second
-by_clock clock m n e h k = h ∙ ap clock e ∙ sym k
+-- its packet has the time of the clock, and this fraction
+abbrev IsTimed : (ℕ → ℕ) → (ℕ → Option ℕ) → Moment → Type 0
+IsTimed clock fraction m = (m.second ≡ clock m.packet) × (m.micro ≡ fraction m.packet)
+
+by_packet : {X : Type 0} (of : ℕ → X) (a b : ℕ) (x y : X) → a ≡ b → x ≡ of a → y ≡ of b → x ≡ y
+by_packet of a b x y e h k = h ∙ ap of e ∙ sym k
+
+by_time : (framing : Framing) (clock : ℕ → ℕ) (fraction : ℕ → Option ℕ) (m n : Message) → m.octets.now ≡ n.octets.now → HasKind framing m → HasKind framing n → m.packet ≡ n.packet
+    → IsTimed clock fraction (moment_in m) → IsTimed clock fraction (moment_in n) → message_value m ≡ message_value n
+by_time framing clock fraction m n o h k packet hb kb =
+    same_value m n o (same_kind framing m n o h k) packet (by_packet clock m.packet n.packet m.second n.second packet hb.0 kb.0)
+    (by_packet fraction m.packet n.packet m.micro n.micro packet hb.1 kb.1)
 
 lacks : (o : List ℕ) (os : List (List ℕ)) → [] ≡ o ∷ os → ⊥
 lacks o os e = omega (arith, ap length e)
@@ -101,20 +110,21 @@ head_is o p os ps e = cc
 tail_is : (o p : List ℕ) (os ps : List (List ℕ)) → o ∷ os ≡ p ∷ ps → os ≡ ps
 tail_is o p os ps e = cc
 
-module _ (framing : Framing) (clock : ℕ → ℕ) (P : ℕ → Message → Type 0) (one_packet : (place : ℕ) (m n : Message) → m.octets.now ≡ n.octets.now → P place m → P place n → m.packet ≡ n.packet) where
+module _ (framing : Framing) (clock : ℕ → ℕ) (fraction : ℕ → Option ℕ) (P : ℕ → Message → Type 0) (one_packet : (place : ℕ) (m n : Message) → m.octets.now ≡ n.octets.now → P place m → P place n → m.packet ≡ n.packet) where
   values_once : (from : ℕ) (pieces : List Piece) (ms ns : List Message) → octets_of ms ≡ octets_of ns → AllByRecursion (HasKind framing) ms → AllByRecursion (HasKind framing) ns
-      → EachAt P from pieces ms → EachAt P from pieces ns → AllByRecursion (GoesBy clock) ms → AllByRecursion (GoesBy clock) ns → values_of ms ≡ values_of ns
+      → EachAt P from pieces ms → EachAt P from pieces ns → AllByRecursion (λ m. IsTimed clock fraction (moment_in m)) ms
+      → AllByRecursion (λ m. IsTimed clock fraction (moment_in m)) ns → values_of ms ≡ values_of ns
   values_once from pieces [] [] e hk kk hc kc hb kb = refl
   values_once from pieces [] (n ∷ ns) e hk kk hc kc hb kb = absurd (lacks n.octets.now (octets_of ns) e)
   values_once from pieces (m ∷ ms) [] e hk kk hc kc hb kb = absurd (lacks m.octets.now (octets_of ms) (sym e))
   values_once from [] (m ∷ ms) (n ∷ ns) e hk kk hc kc hb kb =
       let o = head_is _ _ _ _ e in
-      let here = same_value m n o (same_kind framing m n o hk.0 kk.0) (one_packet from m n o hc.0 kc.0) (by_clock clock m n (one_packet from m n o hc.0 kc.0) hb.0 kb.0) in
+      let here = by_time framing clock fraction m n o hk.0 kk.0 (one_packet from m n o hc.0 kc.0) hb.0 kb.0 in
       ap (λ (v : MessageValue). v ∷ values_of ms) here ∙ ap (λ (vs : List MessageValue). message_value n ∷ vs) (ap values_of (hc.1 ∙ sym kc.1))
   values_once from (Kept octets ∷ pieces) (m ∷ ms) (n ∷ ns) e hk kk hc kc hb kb =
       let o = head_is _ _ _ _ e in
       let more : EachAt P (from + length m.octets.now) pieces ns = subst (λ (x : List ℕ). EachAt P (from + length x) pieces ns) (sym o) kc.1 in
-      let here = same_value m n o (same_kind framing m n o hk.0 kk.0) (one_packet from m n o hc.0 kc.0) (by_clock clock m n (one_packet from m n o hc.0 kc.0) hb.0 kb.0) in
+      let here = by_time framing clock fraction m n o hk.0 kk.0 (one_packet from m n o hc.0 kc.0) hb.0 kb.0 in
       let later = values_once (from + length m.octets.now) pieces ms ns (tail_is _ _ _ _ e) hk.1 kk.1 hc.1 more hb.1 kb.1 in
       ap (λ (v : MessageValue). v ∷ values_of ms) here ∙ ap (λ (vs : List MessageValue). message_value n ∷ vs) later
   values_once from (PassedOver octets ∷ pieces) (m ∷ ms) (n ∷ ns) e hk kk hc kc hb kb = values_once (from + length octets) pieces (m ∷ ms) (n ∷ ns) e hk kk hc kc hb kb
@@ -242,7 +252,7 @@ framed_once framing octets ps qs ms ns a b h k =
 -- ---- of two streams that are the same
 
 moment_by : Giver → Moment
-moment_by g = record { packet = g.packet; second = g.second }
+moment_by g = record { packet = g.packet; second = g.second; micro = g.micro }
 
 giver_as : (runs : List Run) (place : ℕ) → giver runs place ≡ option_map moment_by (giver_at runs place)
 unfolding moment_by
@@ -273,9 +283,15 @@ same_made runs others end same place m h = record {
   not_after = h.not_after;
 }
 
-heard_once : (framing : Framing) (clock : ℕ → ℕ) (first : ℕ) (one other : Stream) (ms ns : List Message) (a b : Unshown) → AreSame one other → AreFrom clock first one.runs.now
-    → IsHeard framing one ms a → IsHeard framing other ns b → (values_of ms ≡ values_of ns) × (a ≡ b)
-heard_once framing clock first one other ms ns a b same each h k =
+-- the runs' packets have the time of the clock, and the fractions
+are_timed : (clock : ℕ → ℕ) (fraction : ℕ → Option ℕ) (first : ℕ) (runs : List Run) → AreFrom clock first runs → AllByRecursion (λ (run : Run). run.micro ≡ fraction run.packet) runs
+    → AllByRecursion (λ (run : Run). IsTimed clock fraction (moment_of run)) runs
+are_timed clock fraction first [] each micros = tt
+are_timed clock fraction first (run ∷ runs) each micros = ((each.0.0, micros.0), are_timed clock fraction first runs each.1 micros.1)
+
+heard_once : (framing : Framing) (clock : ℕ → ℕ) (fraction : ℕ → Option ℕ) (one other : Stream) (ms ns : List Message) (a b : Unshown) → AreSame one other
+    → AllByRecursion (λ (run : Run). IsTimed clock fraction (moment_of run)) one.runs.now → IsHeard framing one ms a → IsHeard framing other ns b → (values_of ms ≡ values_of ns) × (a ≡ b)
+heard_once framing clock fraction one other ms ns a b same each h k =
     let runs = one.runs.now in
     let framed = framed_once framing one.octets.now h.pieces k.pieces ms ns a b h.framed (subst (λ (o : List ℕ). AreFramed framing o k.pieces ns b) (sym same.octets) k.framed) in
     let theirs : AreCame other.runs.now 0 h.pieces ns = subst (λ (ps : List Piece). AreCame other.runs.now 0 ps ns) (sym framed.pieces) k.came in
@@ -283,45 +299,51 @@ heard_once framing clock first one other ms ns a b same each h k =
     each_at_weaker (λ place m. IsCame other.runs.now (place + length m.octets.now) (moment_in m)) (λ place m. IsCame runs (place + length m.octets.now) (moment_in m)) (HasKind framing)
     (λ place m kind. same_came runs other.runs.now (same_givers one other same) place m) 0 h.pieces ns k.kinds theirs
     in (
-      values_once framing clock (λ place m. IsCame runs (place + length m.octets.now) (moment_in m)) (came_packet runs) 0 h.pieces ms ns framed.octets h.kinds k.kinds h.came came
-          (came_by clock first runs 0 h.pieces ms each h.came) (came_by clock first runs 0 h.pieces ns each came),
+      values_once framing clock fraction (λ place m. IsCame runs (place + length m.octets.now) (moment_in m)) (came_packet runs) 0 h.pieces ms ns framed.octets h.kinds k.kinds h.came came
+          (came_each (IsTimed clock fraction) runs 0 h.pieces ms each h.came) (came_each (IsTimed clock fraction) runs 0 h.pieces ns each came),
       framed.unshown,
     )
 
-said_once : (framing : Framing) (clock : ℕ → ℕ) (first : ℕ) (one other : Stream) (end : Option End) (ms ns : List Message) (a b : Unshown) → AreSame one other → AreFrom clock first one.runs.now
-    → IfSome (own_end end) (λ m. m.second ≡ clock m.packet) → IsSaid framing one end ms a → IsSaid framing other end ns b → (values_of ms ≡ values_of ns) × (a ≡ b)
-said_once framing clock first one other end ms ns a b same each ends h k =
+said_once : (framing : Framing) (clock : ℕ → ℕ) (fraction : ℕ → Option ℕ) (one other : Stream) (end : Option End) (ms ns : List Message) (a b : Unshown) → AreSame one other
+    → AllByRecursion (λ (run : Run). IsTimed clock fraction (moment_of run)) one.runs.now → IfSome (own_end end) (IsTimed clock fraction) → IsSaid framing one end ms a → IsSaid framing other end ns b → (values_of ms ≡ values_of ns) × (a ≡ b)
+said_once framing clock fraction one other end ms ns a b same each ends h k =
     let runs = one.runs.now in
     let framed = framed_once framing one.octets.now h.pieces k.pieces ms ns a b h.framed (subst (λ (o : List ℕ). AreFramed framing o k.pieces ns b) (sym same.octets) k.framed) in
     let theirs : AreMade other.runs.now (own_end end) 0 h.pieces ns = subst (λ (ps : List Piece). AreMade other.runs.now (own_end end) 0 ps ns) (sym framed.pieces) k.made in
     let made : AreMade runs (own_end end) 0 h.pieces ns =
     each_at_weaker (λ place m. IsMade other.runs.now (own_end end) place (moment_in m)) (λ place m. IsMade runs (own_end end) place (moment_in m)) (HasKind framing)
     (λ place m kind. same_made runs other.runs.now (own_end end) (same_givers one other same) place m) 0 h.pieces ns k.kinds theirs
-    in
-    let by = all_weaker (λ run. GoesFrom clock first run.packet run.second) (λ run. run.second ≡ clock run.packet) (λ run g. g.0) runs each in (
-      values_once framing clock (λ place m. IsMade runs (own_end end) place (moment_in m)) (made_packet runs (own_end end)) 0 h.pieces ms ns framed.octets h.kinds k.kinds h.made made
-          (made_each (λ x. x.second ≡ clock x.packet) runs (own_end end) h.pieces ms by ends h.made) (made_each (λ x. x.second ≡ clock x.packet) runs (own_end end) h.pieces ns by ends made),
+    in (
+      values_once framing clock fraction (λ place m. IsMade runs (own_end end) place (moment_in m)) (made_packet runs (own_end end)) 0 h.pieces ms ns framed.octets h.kinds k.kinds h.made made
+          (made_each (IsTimed clock fraction) runs (own_end end) h.pieces ms each ends h.made) (made_each (IsTimed clock fraction) runs (own_end end) h.pieces ns each ends made),
       framed.unshown,
     )
 
-end_by : (P Q : End → Type 0) (o : Option End) → ((e : End) → P e → Q e) → IfSome o P → IfSome o Q
-end_by P Q None f h = tt
-end_by P Q (Some e) f h = f e h
+end_by : (P Q R : End → Type 0) (o : Option End) → ((e : End) → P e → Q e → R e) → IfSome o P → IfSome o Q → IfSome o R
+end_by P Q R None f h k = tt
+end_by P Q R (Some e) f h k = f e h k
+
+same_first : (one other : Connection) → TellTheSame one other → first_moment one ≡ first_moment other
+same_first one other same = let p = same.packet in let s = same.second in let m = same.micro in cc
 
 same_order : (within : ℕ) (one other : Connection) (rs ss rs' ss' : List MessageValue) → TellTheSame one other → rs ≡ rs' → ss ≡ ss'
-    → made_order within one.opened_by one.packet one.second rs ss one.end ≡ made_order within other.opened_by other.packet other.second rs' ss' other.end
+    → made_order within one.opened_by (first_moment one) rs ss one.end ≡ made_order within other.opened_by (first_moment other) rs' ss' other.end
 same_order within one other rs ss rs' ss' same p q =
-    ap (λ (s : Side). made_order within s one.packet one.second rs ss one.end) same.opened_by
-    ∙ ap (λ (n : ℕ). made_order within other.opened_by n one.second rs ss one.end) same.packet
-    ∙ ap (λ (n : ℕ). made_order within other.opened_by other.packet n rs ss one.end) same.second
-    ∙ ap (λ (vs : List MessageValue). made_order within other.opened_by other.packet other.second vs ss one.end) p
-    ∙ ap (λ (vs : List MessageValue). made_order within other.opened_by other.packet other.second rs' vs one.end) q
-    ∙ ap (λ (o : Option End). made_order within other.opened_by other.packet other.second rs' ss' o) same.end
+    ap (λ (s : Side). made_order within s (first_moment one) rs ss one.end) same.opened_by
+    ∙ ap (λ (m : Moment). made_order within other.opened_by m rs ss one.end) (same_first one other same)
+    ∙ ap (λ (vs : List MessageValue). made_order within other.opened_by (first_moment other) vs ss one.end) p
+    ∙ ap (λ (vs : List MessageValue). made_order within other.opened_by (first_moment other) rs' vs one.end) q
+    ∙ ap (λ (o : Option End). made_order within other.opened_by (first_moment other) rs' ss' o) same.end
 
 pub recorded_once : ConnectionsAreRecordedOnce
 recorded_once framings within one other entries others a b a' b' same clocked h k =
-    let heard = heard_once framings.received clocked.clock one.packet one.received other.received h.told.received k.told.received a a' same.received clocked.received h.told.heard k.told.heard in
-    let ends = own_end_is (λ x. x.second ≡ clocked.clock x.packet) one.end (end_by _ _ one.end (λ e g. g.0) clocked.ends) in
+    let clock = clocked.clock in
+    let fractions = clocked.fractions in
+    let fraction = fractions.fraction in
+    let came = are_timed clock fraction one.packet one.received.runs.now clocked.received fractions.received in
+    let made = are_timed clock fraction one.packet one.sent.runs.now clocked.sent fractions.sent in
+    let heard = heard_once framings.received clock fraction one.received other.received h.told.received k.told.received a a' same.received came h.told.heard k.told.heard in
+    let ends = own_end_is (IsTimed clock fraction) one.end (end_by _ _ (λ e. IsTimed clocked.clock clocked.fractions.fraction (end_moment e)) one.end (λ e g f. (g.0, f)) clocked.ends fractions.ends) in
     let said_of : IsSaid framings.sent other.sent one.end k.told.sent b' = subst (λ (o : Option End). IsSaid framings.sent other.sent o k.told.sent b') (sym same.end) k.told.said in
-    let said = said_once framings.sent clocked.clock one.packet one.sent other.sent one.end h.told.sent k.told.sent b b' same.sent clocked.sent ends h.told.said said_of in
+    let said = said_once framings.sent clock fraction one.sent other.sent one.end h.told.sent k.told.sent b b' same.sent made ends h.told.said said_of in
     (h.order ∙ same_order within one other _ _ _ _ same heard.0 said.0 ∙ sym k.order, heard.1, said.1)

@@ -23,6 +23,7 @@ use Rattle.bgp_recording.specs.Steps.{order_of}
 use Rattle.streams.specs.declared.passed.Side.{Side}
 use Rattle.bgp_recording.specs.MadeOrder.{made_order}
 use Rattle.bgp_recording.specs.Values.{values_of}
+use Rattle.bgp_recording.specs.Moments.{first_moment, opening_moment}
 use Rattle.bgp_recording.proofs.Lists.{all_weaker}
 use Rattle.bgp_recording.proofs.Heard.{came_by, came_rise, made_each, made_rise, made_last, own_end_is, stamped_came, stamped_made}
 
@@ -88,10 +89,14 @@ is_told_by framings connection exchange received sent received_unshown sent_unsh
     (subst (λ (ms : List Message). IsSaid framings.sent connection.sent exchange.end ms sent_unshown) (sym q)
     (subst (λ (o : Option End). IsSaid framings.sent connection.sent o sent sent_unshown) (sym end) said))
 
+same_first : (connection : Connection) (exchange : Exchange) → exchange.packet ≡ connection.packet → exchange.second ≡ connection.second → exchange.micro ≡ connection.micro
+    → opening_moment exchange ≡ first_moment connection
+same_first connection exchange packet second micro = cc
+
 pub recorded_by : (framings : Framings) (within : ℕ) (connection : Connection) (entries : List Entry) (received_unshown sent_unshown : Unshown) (received sent heard_now said_now : List Message)
     → heard_now ≡ received → said_now ≡ sent → IsHeard framings.received connection.received received received_unshown → IsSaid framings.sent connection.sent connection.end sent sent_unshown
-    → Tells within connection.opened_by connection.packet connection.second heard_now said_now connection.end (map numbered_of entries) → AllByRecursion HasSecond entries
-    → map numbered_of entries ≡ made_order within connection.opened_by connection.packet connection.second (values_of heard_now) (values_of said_now) connection.end
+    → Tells within connection.opened_by (first_moment connection) heard_now said_now connection.end (map numbered_of entries) → AllByRecursion HasSecond entries
+    → map numbered_of entries ≡ made_order within connection.opened_by (first_moment connection) (values_of heard_now) (values_of said_now) connection.end
     → IsRecordedInOrder framings within connection entries received_unshown sent_unshown
 recorded_by framings within connection entries received_unshown sent_unshown received sent heard_now said_now p q heard said tells seconds order = record {
   told = record {
@@ -99,13 +104,13 @@ recorded_by framings within connection entries received_unshown sent_unshown rec
     sent = sent;
     heard = heard;
     said = said;
-    tells = subst (λ (ms : List Message). Tells within connection.opened_by connection.packet connection.second ms sent connection.end (map numbered_of entries)) p
-        (subst (λ (ms : List Message). Tells within connection.opened_by connection.packet connection.second heard_now ms connection.end (map numbered_of entries)) q tells);
+    tells = subst (λ (ms : List Message). Tells within connection.opened_by (first_moment connection) ms sent connection.end (map numbered_of entries)) p
+        (subst (λ (ms : List Message). Tells within connection.opened_by (first_moment connection) heard_now ms connection.end (map numbered_of entries)) q tells);
     seconds = seconds;
   };
   order = order
-      ∙ ap (λ (ms : List Message). made_order within connection.opened_by connection.packet connection.second (values_of ms) (values_of said_now) connection.end) p
-      ∙ ap (λ (ms : List Message). made_order within connection.opened_by connection.packet connection.second (values_of received) (values_of ms) connection.end) q;
+      ∙ ap (λ (ms : List Message). made_order within connection.opened_by (first_moment connection) (values_of ms) (values_of said_now) connection.end) p
+      ∙ ap (λ (ms : List Message). made_order within connection.opened_by (first_moment connection) (values_of received) (values_of ms) connection.end) q;
 }
 
 pub recorded_of : (framings : Framings) (within : ℕ) (connection : Connection) (exchange : Exchange) (entries : List Entry) (received sent : List Message) (received_unshown sent_unshown : Unshown)
@@ -114,18 +119,17 @@ pub recorded_of : (framings : Framings) (within : ℕ) (connection : Connection)
     → map numbered_of entries ≡ order_of within exchange → IsRecordedInOrder framings within connection entries received_unshown sent_unshown
 recorded_of framings within connection exchange entries received sent received_unshown sent_unshown of heard said clocked made seconds order =
     let told = is_told_by framings connection exchange received sent received_unshown sent_unshown of.packet of.second of.end of.received of.sent clocked heard said in
+    let first = same_first connection exchange of.packet of.second of.micro in
     let ns = map numbered_of entries in
     let rs = exchange.received.now in
     let ss = exchange.sent.now in
-    let tells : Tells within connection.opened_by connection.packet connection.second rs ss connection.end ns =
-    subst (λ (e : Option End). Tells within connection.opened_by connection.packet connection.second rs ss e ns) of.end
-    (subst (λ (n : ℕ). Tells within connection.opened_by connection.packet n rs ss exchange.end ns) of.second
-    (subst (λ (n : ℕ). Tells within connection.opened_by n exchange.second rs ss exchange.end ns) of.packet
-    (subst (λ (s : Side). Tells within s exchange.packet exchange.second rs ss exchange.end ns) of.opened_by (made told)))) in
-    let ordered : ns ≡ made_order within connection.opened_by connection.packet connection.second (values_of rs) (values_of ss) connection.end =
+    let tells : Tells within connection.opened_by (first_moment connection) rs ss connection.end ns =
+    subst (λ (e : Option End). Tells within connection.opened_by (first_moment connection) rs ss e ns) of.end
+    (subst (λ (m : Moment). Tells within connection.opened_by m rs ss exchange.end ns) first
+    (subst (λ (s : Side). Tells within s (opening_moment exchange) rs ss exchange.end ns) of.opened_by (made told))) in
+    let ordered : ns ≡ made_order within connection.opened_by (first_moment connection) (values_of rs) (values_of ss) connection.end =
     order
-    ∙ ap (λ (s : Side). made_order within s exchange.packet exchange.second (values_of rs) (values_of ss) exchange.end) of.opened_by
-    ∙ ap (λ (n : ℕ). made_order within connection.opened_by n exchange.second (values_of rs) (values_of ss) exchange.end) of.packet
-    ∙ ap (λ (n : ℕ). made_order within connection.opened_by connection.packet n (values_of rs) (values_of ss) exchange.end) of.second
-    ∙ ap (λ (e : Option End). made_order within connection.opened_by connection.packet connection.second (values_of rs) (values_of ss) e) of.end in
+    ∙ ap (λ (s : Side). made_order within s (opening_moment exchange) (values_of rs) (values_of ss) exchange.end) of.opened_by
+    ∙ ap (λ (m : Moment). made_order within connection.opened_by m (values_of rs) (values_of ss) exchange.end) first
+    ∙ ap (λ (e : Option End). made_order within connection.opened_by (first_moment connection) (values_of rs) (values_of ss) e) of.end in
     recorded_by framings within connection entries received_unshown sent_unshown received sent rs ss of.received of.sent heard said tells seconds ordered

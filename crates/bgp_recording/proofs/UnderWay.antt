@@ -18,6 +18,7 @@ use Rattle.bgp_recording.specs.Changes.{led_by_received, led_by_sent, is_answere
 use Rattle.bgp_recording.specs.Steps.{Making, ShowsReceived, ShowsSent, ShowsEnd, Shows, Steps, StepsOrEnds, Begins}
 use Rattle.bgp_recording.specs.Tells.{Numbered, numbered_with, change, opening, Tells}
 use Rattle.bgp_recording.specs.Told.{IsClock, GoesBy, Rises, IsLast, AreClocked, IsTold}
+use Rattle.bgp_recording.specs.Moments.{end_moment, moment_in, opening_moment}
 use Rattle.bgp_recording.proofs.Orders.{before_all, before_end, not_later, in_time_all}
 use Rattle.bgp_recording.proofs.Telling.{Follows, follows_received, follows_sent, follows_end, ended_with, changes_at_end}
 
@@ -28,7 +29,7 @@ IsOnTime clock pending = AreClocked clock pending.received pending.sent pending.
 -- these records tell what is exchanged
 abbrev pub TellsIt : ℕ → Exchange → List Numbered → Type 0
 TellsIt within exchange numbered =
-    Tells within exchange.opened_by exchange.packet exchange.second exchange.received.now exchange.sent.now exchange.end numbered
+    Tells within exchange.opened_by (opening_moment exchange) exchange.received.now exchange.sent.now exchange.end numbered
 
 -- whatever may follow the records so far
 abbrev pub Goes : ℕ → Exchange → Making → Type 0
@@ -118,11 +119,11 @@ ahead_received clock r last (s ∷ ss) clocked by sent before h = (
 )
 
 keeps_sent : (within : ℕ) (rs ss later : List Message) (s : Message) (end : Option End) → ss ≡ s ∷ later → MayKeep within rs (own_of ss end)
-    → MayKeep within rs (Some record { packet = s.packet; second = s.second })
+    → MayKeep within rs (Some (moment_in s))
 keeps_sent within rs ss later s end e h = subst (λ (xs : List Message). MayKeep within rs (own_of xs end)) e h
 
 keeps_end : (within : ℕ) (rs ss : List Message) (end : End) (o : Option End) → ss ≡ [] → o ≡ Some end → MayKeep within rs (own_of ss o)
-    → MayKeep within rs (Some record { packet = end.packet; second = end.second })
+    → MayKeep within rs (Some (end_moment end))
 keeps_end within rs ss end o e p h =
     subst (λ (q : Option End). MayKeep within rs (own_of [] q)) p (subst (λ (xs : List Message). MayKeep within rs (own_of xs o)) e h)
 
@@ -148,7 +149,7 @@ after_received within exchange old new r leads shows h =
           (ahead_received h.clock r old.last old.pending.sent h.go_by.clocked by h.go_by.sent_by ahead h.ahead));
       so_far = λ rest follows.
           let led = led_by_received old.state r.kind (is_answered_before_open r.kind old.pending.sent) in
-          let n = numbered_with r.packet (shown.Received new.last r.octets.now) in
+          let n = numbered_with (moment_in r) (shown.Received new.last r.octets.now) in
           let after : Follows within new.last (state_then old.state led) (just_received r.kind) new.pending.received old.pending.sent old.pending.end rest =
           same_left within new.last (state_then old.state (led_by_received old.state r.kind (is_answered_before_open r.kind new.pending.sent))) (state_then old.state led) (just_received r.kind)
           new.pending.received new.pending.received new.pending.sent old.pending.sent new.pending.end old.pending.end rest
@@ -157,11 +158,11 @@ after_received within exchange old new r leads shows h =
           new.pending.received new.pending.sent new.pending.end rest shows.state shows.before follows) in
           let with_it = follows_received within old.last new.last old.state old.before r new.pending.received old.pending.sent old.pending.end rest ahead ended
           (omega (arith, le-max_right r.second old.last, shows.second)) shows.second after in
-          let put : new.numbered ≡ old.numbered ++ (n ∷ change r.packet new.last old.state led) =
-          shows.put ∙ ap (λ (xs : List Message). old.numbered ++ (n ∷ change r.packet new.last old.state (led_by_received old.state r.kind (is_answered_before_open r.kind xs)))) leads.sent in
-          put_then within exchange old.numbered new.numbered (n ∷ change r.packet new.last old.state led) rest put
+          let put : new.numbered ≡ old.numbered ++ (n ∷ change (moment_in r) new.last old.state led) =
+          shows.put ∙ ap (λ (xs : List Message). old.numbered ++ (n ∷ change (moment_in r) new.last old.state (led_by_received old.state r.kind (is_answered_before_open r.kind xs)))) leads.sent in
+          put_then within exchange old.numbered new.numbered (n ∷ change (moment_in r) new.last old.state led) rest put
           (h.so_far _ (subst (λ (xs : List Message). Follows within old.last old.state old.before xs old.pending.sent old.pending.end
-          (n ∷ (change r.packet new.last old.state led ++ rest))) (sym leads.received) with_it));
+          (n ∷ (change (moment_in r) new.last old.state led ++ rest))) (sym leads.received) with_it));
     }
 
 after_sent : (within : ℕ) (exchange : Exchange) (old new : Making) (s : Message) → LeadsSent within old.pending s new.pending → ShowsSent old s new
@@ -170,7 +171,7 @@ after_sent within exchange old new s leads shows h =
     let by = tail_by _ _ _ _ leads.sent h.go_by.sent_by in
     let rises = tail_rises _ _ _ leads.sent h.go_by.sent_rise in
     let le = (tail_by _ _ _ _ leads.sent h.ahead).0 in
-    let in_time = in_time_all within h.clock record { packet = s.packet; second = s.second } old.pending.received h.go_by.clocked by.0 h.go_by.received_by h.go_by.received_rise
+    let in_time = in_time_all within h.clock (moment_in s) old.pending.received h.go_by.clocked by.0 h.go_by.received_by h.go_by.received_rise
     (keeps_sent within old.pending.received old.pending.sent new.pending.sent s old.pending.end leads.sent leads.in_time) in
     record {
       clock = h.clock;
@@ -179,23 +180,23 @@ after_sent within exchange old new s leads shows h =
           (from_first h.clock s.packet s.second new.pending.sent h.go_by.clocked by.0 by.1 rises.0);
       so_far = λ rest follows.
           let led = led_by_sent old.state s.kind old.before in
-          let n = numbered_with s.packet (shown.Sent new.last s.octets.now) in
+          let n = numbered_with (moment_in s) (shown.Sent new.last s.octets.now) in
           let after : Follows within new.last (state_then old.state led) (just_sent old.state s.kind old.before) old.pending.received new.pending.sent old.pending.end rest =
           same_left within new.last (state_then old.state led) (state_then old.state led) (just_sent old.state s.kind old.before) new.pending.received old.pending.received new.pending.sent new.pending.sent
           new.pending.end old.pending.end rest refl leads.received refl leads.end
           (same_state within new.last new.state (state_then old.state led) new.before (just_sent old.state s.kind old.before) new.pending.received new.pending.sent new.pending.end rest shows.state shows.before follows) in
           let with_it = follows_sent within old.last new.last old.state old.before s old.pending.received new.pending.sent old.pending.end rest in_time
           (omega (arith, le, shows.second)) shows.second after in
-          put_then within exchange old.numbered new.numbered (n ∷ change s.packet new.last old.state led) rest shows.put
+          put_then within exchange old.numbered new.numbered (n ∷ change (moment_in s) new.last old.state led) rest shows.put
           (h.so_far _ (subst (λ (xs : List Message). Follows within old.last old.state old.before old.pending.received xs old.pending.end
-          (n ∷ (change s.packet new.last old.state led ++ rest))) (sym leads.sent) with_it));
+          (n ∷ (change (moment_in s) new.last old.state led ++ rest))) (sym leads.sent) with_it));
     }
 
 after_end : (within : ℕ) (exchange : Exchange) (old new : Making) (e : End) → LeadsEnd within old.pending e new.pending → ShowsEnd old e new
     → IsUnderWay within exchange old → IsUnderWay within exchange new
 after_end within exchange old new e leads shows h =
     let by : e.second ≡ h.clock e.packet = subst (λ (o : Option End). IfSome o (λ e. e.second ≡ h.clock e.packet)) leads.end_before h.go_by.end_by in
-    let in_time = in_time_all within h.clock record { packet = e.packet; second = e.second } old.pending.received h.go_by.clocked by h.go_by.received_by h.go_by.received_rise
+    let in_time = in_time_all within h.clock (end_moment e) old.pending.received h.go_by.clocked by h.go_by.received_by h.go_by.received_rise
     (keeps_end within old.pending.received old.pending.sent e old.pending.end leads.sent_before leads.end_before leads.in_time) in
     record {
       clock = h.clock;
@@ -209,13 +210,13 @@ after_end within exchange old new e leads shows h =
           (same_state within new.last new.state (ended_with old.state left) new.before Other left new.pending.sent new.pending.end rest shows.state shows.before follows) in
           let with_it = follows_end within old.last new.last old.state old.before e old.pending.received rest in_time
           (omega (arith, le-max_right e.second old.last, shows.second)) shows.second after in
-          let put : new.numbered ≡ old.numbered ++ changes_at_end e.packet new.last old.state old.pending.received =
-          shows.put ∙ ap (λ (xs : List Message). old.numbered ++ changes_at_end e.packet new.last old.state xs) leads.received in
-          put_then within exchange old.numbered new.numbered (changes_at_end e.packet new.last old.state old.pending.received) rest put
+          let put : new.numbered ≡ old.numbered ++ changes_at_end (end_moment e) new.last old.state old.pending.received =
+          shows.put ∙ ap (λ (xs : List Message). old.numbered ++ changes_at_end (end_moment e) new.last old.state xs) leads.received in
+          put_then within exchange old.numbered new.numbered (changes_at_end (end_moment e) new.last old.state old.pending.received) rest put
           (h.so_far _ (subst (λ (o : Option End). Follows within old.last old.state old.before old.pending.received old.pending.sent o
-          (changes_at_end e.packet new.last old.state old.pending.received ++ rest)) (sym leads.end_before)
+          (changes_at_end (end_moment e) new.last old.state old.pending.received ++ rest)) (sym leads.end_before)
           (subst (λ (xs : List Message). Follows within old.last old.state old.before old.pending.received xs (Some e)
-          (changes_at_end e.packet new.last old.state old.pending.received ++ rest)) (sym leads.sent_before) with_it)));
+          (changes_at_end (end_moment e) new.last old.state old.pending.received ++ rest)) (sym leads.sent_before) with_it)));
     }
 
 by_turn : (within : ℕ) (exchange : Exchange) (old new : Making) (turn : Turn) → Leads within old.pending turn new.pending → Shows old turn new
@@ -249,7 +250,7 @@ begins_under_way within exchange making begun told =
             events = all.events;
             allowed = all.allowed;
             timed = all.timed;
-            shown = ap (λ (ns : List Numbered). opening exchange.opened_by exchange.packet exchange.second ∷ ns) (sym all.shown);
+            shown = ap (λ (ns : List Numbered). opening exchange.opened_by (opening_moment exchange) ∷ ns) (sym all.shown);
           };
     }
 

@@ -16,8 +16,8 @@ use Rattle.bgp_recording.specs.declared.framing.Rest.{Rest}
 use Rattle.bgp_recording.specs.declared.framing.Rest.TheVariants.{Short, BehindFault}
 use Rattle.bgp_recording.specs.declared.framing.Unshown.{Unshown}
 use Rattle.bgp_recording.specs.declared.message.Message.{Message}
-use Rattle.bgp_recording.specs.declared.pending.Moment.{Moment}
 use Rattle.bgp_recording.specs.Givers.{giver}
+use Rattle.bgp_recording.specs.Moments.{moment_in}
 use Rattle.bgp_recording.specs.Pieces.{Piece, Kept, PassedOver, IsPiece, kept, passed_over}
 use Rattle.bgp_recording.specs.Pieces.{stream_of, BeginsRefresh, IsShortOf, IsFaultyOf}
 
@@ -85,9 +85,6 @@ EachAt Holds from (Kept octets ∷ pieces) (m ∷ later) =
     Holds from m × EachAt Holds (from + length m.octets.now) pieces later
 EachAt Holds from (PassedOver octets ∷ pieces) messages =
     EachAt Holds (from + length octets) pieces messages
-
-abbrev pub moment_in : Message → Moment
-moment_in message = record { packet = message.packet; second = message.second }
 
 -- the place of the octet whose packet is that of a message: its last one, or its first
 abbrev pub stamped_at : Direction → ℕ → ℕ → ℕ

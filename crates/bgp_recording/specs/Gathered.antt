@@ -1,6 +1,7 @@
 -- A connection as packets give it, and the messages in its streams.
 use Rattle.std.specs.Prelude.{◌≡◌, ◌≤◌, ◌+◌, ℕ, List, length, Option, IfSome}
 use Rattle.std.specs.List.{AllByRecursion}
+use Rattle.streams.specs.Clock.{HasFractions}
 use Rattle.streams.specs.declared.connection.Connection.{Connection}
 use Rattle.streams.specs.declared.connection.End.{End}
 use Rattle.streams.specs.declared.connection.Run.{Run}
@@ -9,8 +10,9 @@ use Rattle.bgp_recording.specs.declared.framing.Framing.{Framing}
 use Rattle.bgp_recording.specs.declared.framing.Unshown.{Unshown}
 use Rattle.bgp_recording.specs.declared.message.Message.{Message}
 use Rattle.bgp_recording.specs.declared.pending.Moment.{Moment}
-use Rattle.bgp_recording.specs.Framed.{AreFramed, EachAt, HasKind, moment_in}
+use Rattle.bgp_recording.specs.Framed.{AreFramed, EachAt, HasKind}
 use Rattle.bgp_recording.specs.Givers.{given_by, IsNotEmpty, IsCame, IsMade, own_end}
+use Rattle.bgp_recording.specs.Moments.{moment_in}
 use Rattle.bgp_recording.specs.Pieces.{Piece}
 use Rattle.bgp_recording.specs.Told.{IsClock}
 
@@ -28,7 +30,8 @@ abbrev pub AreFrom : (ℕ → ℕ) → ℕ → List Run → Type 0
 AreFrom clock first runs = AllByRecursion (λ run. GoesFrom clock first run.packet run.second) runs
 
 -- Some clock, which never falls, is that of the connection's packets, the first of which it names:
--- so it is where the second of no packet is below that of one before it.
+-- so it is where the second of no packet is below that of one before it. And the fraction of each
+-- packet's second is one thing.
 pub record IsClocked (connection : Connection) : Type 0 where
   pub clock : ℕ → ℕ
   pub rises : IsClock clock
@@ -37,6 +40,7 @@ pub record IsClocked (connection : Connection) : Type 0 where
   pub sent : AreFrom clock connection.packet connection.sent.runs.now
   pub ends : IfSome connection.end
       (λ end. GoesFrom clock connection.packet end.packet end.second)
+  pub fractions : HasFractions connection
 
 -- The messages of these pieces, from this place on, have the packets by which they came, with all
 -- octets before them, also those that are passed over.

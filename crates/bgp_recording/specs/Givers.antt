@@ -8,15 +8,13 @@ use Rattle.streams.specs.declared.passed.Side.{Side}
 use Rattle.streams.specs.declared.passed.Side.TheVariants.{Local, Peer}
 use Rattle.bgp_recording.specs.declared.pending.Moment.{Moment}
 use Rattle.bgp_recording.specs.declared.givers.Cursor.{Cursor}
-
-abbrev pub moment_of : Run → Moment
-moment_of run = record { packet = run.packet; second = run.second }
+use Rattle.bgp_recording.specs.Moments.{end_moment, moment_of}
 
 -- it has octets
 abbrev pub IsNotEmpty : Run → Type 0
 IsNotEmpty run = 1 ≤ run.count
 
--- the packet that was the first to give the octet at a place, and its second
+-- the packet that was the first to give the octet at a place, with its time
 abbrev pub giver : List Run → ℕ → Option Moment
 giver [] place = None
 giver (run ∷ later) place =
@@ -37,7 +35,7 @@ pub record IsCame (runs : List Run) (end : ℕ) (moment : Moment) : Type 0 where
 
 -- an end of the local system shows that all before it had been made
 abbrev pub own_end_by : End → Side → Option Moment
-own_end_by end Local = Some record { packet = end.packet; second = end.second }
+own_end_by end Local = Some (end_moment end)
 own_end_by end Peer = None
 
 abbrev pub own_end : Option End → Option Moment

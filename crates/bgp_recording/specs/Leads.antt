@@ -11,6 +11,7 @@ use Rattle.bgp_recording.specs.declared.pending.Turn.TheVariants as turns
 use Rattle.streams.specs.declared.passed.Side.TheVariants.{Local}
 use Rattle.bgp_recording.specs.First.{IsFirst}
 use Rattle.bgp_recording.specs.MadeOrder.{is_taken, shown_next}
+use Rattle.bgp_recording.specs.Moments.{end_moment, moment_in}
 use Rattle.bgp_recording.specs.Values.{values_of}
 
 -- what is left of each direction, and the end where it is still to come
@@ -28,8 +29,8 @@ pending_of slices = record {
 
 -- the packet of what the local system shows next: of its next message, or else of the end
 abbrev pub own_of : List Message → Option End → Option Moment
-own_of (message ∷ later) end = Some record { packet = message.packet; second = message.second }
-own_of [] (Some end) = Some record { packet = end.packet; second = end.second }
+own_of (message ∷ later) end = Some (moment_in message)
+own_of [] (Some end) = Some (end_moment end)
 own_of [] None = None
 
 -- a received message came by a packet before that one

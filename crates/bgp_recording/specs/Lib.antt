@@ -1,5 +1,6 @@
 -- In reading order.
 pub mod First
+pub mod Moments
 pub mod States
 pub mod Allowed
 pub mod Changes

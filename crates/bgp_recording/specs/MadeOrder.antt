@@ -18,7 +18,8 @@ use Rattle.bgp_recording.specs.Changes.{led_by_received, led_by_sent, led_by_end
 use Rattle.bgp_recording.specs.Changes.{answers_before_open, just_received, just_sent}
 use Rattle.bgp_recording.specs.Changes.{awaits_keepalive, opened_state, state_then}
 use Rattle.bgp_recording.specs.Tells.{Numbered, numbered_with, change, opening}
-use Rattle.bgp_recording.specs.Values.{MessageValue, code_of, first_of}
+use Rattle.bgp_recording.specs.Moments.{end_moment}
+use Rattle.bgp_recording.specs.Values.{MessageValue, code_of, first_of, value_moment}
 use Rattle.bgp_recording.specs.Waiting.{foresight_of, is_answered, reason_of, waits_for}
 
 -- An order while it is made: what is left, how many messages of each direction are in it, the
@@ -37,8 +38,8 @@ pub record Course : Type 0 where
 
 -- the packet of what the local system shows next: of its next message, or else of the end
 abbrev pub shown_next : List MessageValue → Option End → Option Moment
-shown_next (message ∷ later) end = Some record { packet = message.packet; second = message.second }
-shown_next [] (Some end) = Some record { packet = end.packet; second = end.second }
+shown_next (message ∷ later) end = Some (value_moment message)
+shown_next [] (Some end) = Some (end_moment end)
 shown_next [] None = None
 
 -- ---- which is next
@@ -91,8 +92,8 @@ after_received foresight course message later =
       is_answering = first_is_answered foresight course course.received;
       before = just_received message.kind;
       numbered = course.numbered
-          ++ numbered_with message.packet (shown.Received second message.octets)
-          ∷ change message.packet second course.state led;
+          ++ numbered_with (value_moment message) (shown.Received second message.octets)
+          ∷ change (value_moment message) second course.state led;
     }
 
 -- A sent one at its own. The own OPEN for one that is accepted late is half of the answer.
@@ -110,8 +111,8 @@ after_sent course message later =
       is_answering = awaits_keepalive before;
       before = before;
       numbered = course.numbered
-          ++ numbered_with message.packet (shown.Sent message.second message.octets)
-          ∷ change message.packet message.second course.state led;
+          ++ numbered_with (value_moment message) (shown.Sent message.second message.octets)
+          ∷ change (value_moment message) message.second course.state led;
     }
 
 -- some are left
@@ -135,8 +136,8 @@ after_end course end =
       is_answering = false;
       before = Other;
       numbered = course.numbered
-          ++ (change end.packet second course.state (led_by_end course.state)
-          ++ change end.packet second ended left);
+          ++ (change (end_moment end) second course.state (led_by_end course.state)
+          ++ change (end_moment end) second ended left);
     }
 
 -- what the local system shows, if it shows anything
@@ -164,18 +165,18 @@ after_more (suc more) foresight within course =
     after_more more foresight within (after_next foresight within course)
 
 -- the connection's first packet shows the change from Idle
-abbrev pub begun_course : Side → ℕ → ℕ → List MessageValue → List MessageValue → Option End
+abbrev pub begun_course : Side → Moment → List MessageValue → List MessageValue → Option End
     → Course
-begun_course opened_by packet second received sent end = record {
+begun_course opened_by first received sent end = record {
   received = received;
   sent = sent;
   end = end;
   place = record { received = 0; sent = 0 };
-  last = second;
+  last = first.second;
   state = opened_state opened_by;
   is_answering = false;
   before = Other;
-  numbered = opening opened_by packet second ∷ [];
+  numbered = opening opened_by first ∷ [];
 }
 
 -- so much has to be ordered
@@ -183,9 +184,9 @@ abbrev pub count_of : List MessageValue → List MessageValue → Option End →
 count_of received sent end = length received + length sent + length (ends_of end)
 
 -- The records in the made order, within so many seconds, of a session whose connection this side
--- opened by a first packet at this second, with these messages and this end.
-abbrev pub made_order : ℕ → Side → ℕ → ℕ → List MessageValue → List MessageValue → Option End
+-- opened by this first packet, with these messages and this end.
+abbrev pub made_order : ℕ → Side → Moment → List MessageValue → List MessageValue → Option End
     → List Numbered
-made_order within opened_by packet second received sent end =
+made_order within opened_by first received sent end =
     (after_more (count_of received sent end) (foresight_of received sent) within
-    (begun_course opened_by packet second received sent end)).numbered
+    (begun_course opened_by first received sent end)).numbered

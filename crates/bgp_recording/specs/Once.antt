@@ -20,6 +20,7 @@ pub record TellTheSame (one other : Connection) : Type 0 where
   pub opened_by : one.opened_by ≡ other.opened_by
   pub packet : one.packet ≡ other.packet
   pub second : one.second ≡ other.second
+  pub micro : one.micro ≡ other.micro
   pub received : AreSame one.received other.received
   pub sent : AreSame one.sent other.sent
   pub end : one.end ≡ other.end

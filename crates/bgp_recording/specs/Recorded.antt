@@ -9,6 +9,7 @@ use Rattle.bgp_recording.specs.declared.message.Message.{Message}
 use Rattle.bgp_recording.specs.declared.ordering.Exchange.{Exchange}
 use Rattle.bgp_recording.specs.Gathered.{IsHeard, IsSaid}
 use Rattle.bgp_recording.specs.MadeOrder.{made_order}
+use Rattle.bgp_recording.specs.Moments.{first_moment}
 use Rattle.bgp_recording.specs.Tells.{Tells, HasSecond, numbered_of}
 use Rattle.bgp_recording.specs.Values.{values_of}
 
@@ -18,6 +19,7 @@ pub record IsExchangeOf
   pub opened_by : exchange.opened_by ≡ connection.opened_by
   pub packet : exchange.packet ≡ connection.packet
   pub second : exchange.second ≡ connection.second
+  pub micro : exchange.micro ≡ connection.micro
   pub received : exchange.received.now ≡ heard
   pub sent : exchange.sent.now ≡ said
   pub end : exchange.end ≡ connection.end
@@ -32,7 +34,7 @@ pub record IsRecorded
   pub sent : List Message
   pub heard : IsHeard framings.received connection.received received received_unshown
   pub said : IsSaid framings.sent connection.sent connection.end sent sent_unshown
-  pub tells : Tells within connection.opened_by connection.packet connection.second received sent
+  pub tells : Tells within connection.opened_by (first_moment connection) received sent
       connection.end (map numbered_of entries)
   pub seconds : AllByRecursion HasSecond entries
 
@@ -41,5 +43,5 @@ pub record IsRecordedInOrder
     (framings : Framings) (within : ℕ) (connection : Connection) (entries : List Entry)
     (received_unshown sent_unshown : Unshown) : Type 0 where
   pub told : IsRecorded framings within connection entries received_unshown sent_unshown
-  pub order : map numbered_of entries ≡ made_order within connection.opened_by connection.packet
-      connection.second (values_of told.received) (values_of told.sent) connection.end
+  pub order : map numbered_of entries ≡ made_order within connection.opened_by
+      (first_moment connection) (values_of told.received) (values_of told.sent) connection.end

@@ -17,6 +17,7 @@ use Rattle.bgp_recording.specs.Changes.{is_answered_before_open, just_received, 
 use Rattle.bgp_recording.specs.Changes.{awaits_keepalive, are_left, opened_state, state_then}
 use Rattle.bgp_recording.specs.Leads.{Pending, Leads, IsDone}
 use Rattle.bgp_recording.specs.MadeOrder.{Course, made_order}
+use Rattle.bgp_recording.specs.Moments.{end_moment, moment_in, opening_moment}
 use Rattle.bgp_recording.specs.Tells.{Numbered, numbered_with, change, opening}
 use Rattle.bgp_recording.specs.Values.{values_of}
 
@@ -37,8 +38,8 @@ pub record ShowsReceived (old : Making) (message : Message) (new : Making) : Typ
   pub put : let answered = is_answered_before_open message.kind new.pending.sent in
       let led = led_by_received old.state message.kind answered in
       new.numbered ≡ old.numbered
-      ++ numbered_with message.packet (shown.Received new.last message.octets.now)
-      ∷ change message.packet new.last old.state led
+      ++ numbered_with (moment_in message) (shown.Received new.last message.octets.now)
+      ∷ change (moment_in message) new.last old.state led
   pub state : let answered = is_answered_before_open message.kind new.pending.sent in
       new.state ≡ state_then old.state (led_by_received old.state message.kind answered)
   pub before : new.before ≡ just_received message.kind
@@ -49,8 +50,8 @@ pub record ShowsSent (old : Making) (message : Message) (new : Making) : Type 0 
   pub fits : new.last < 2 ^ 32
   pub put : let led = led_by_sent old.state message.kind old.before in
       new.numbered ≡ old.numbered
-      ++ numbered_with message.packet (shown.Sent new.last message.octets.now)
-      ∷ change message.packet new.last old.state led
+      ++ numbered_with (moment_in message) (shown.Sent new.last message.octets.now)
+      ∷ change (moment_in message) new.last old.state led
   pub state : new.state
       ≡ state_then old.state (led_by_sent old.state message.kind old.before)
   pub before : new.before ≡ just_sent old.state message.kind old.before
@@ -60,8 +61,10 @@ pub record ShowsEnd (old : Making) (end : End) (new : Making) : Type 0 where
   pub second : new.last ≡ max end.second old.last
   pub fits : new.last < 2 ^ 32
   pub put : let ended = state_then old.state (led_by_end old.state) in
-      new.numbered ≡ old.numbered ++ (change end.packet new.last old.state (led_by_end old.state)
-      ++ change end.packet new.last ended (led_by_left old.state (are_left new.pending.received)))
+      new.numbered ≡ old.numbered
+      ++ (change (end_moment end) new.last old.state (led_by_end old.state)
+      ++ change (end_moment end) new.last ended
+      (led_by_left old.state (are_left new.pending.received)))
   pub state : new.state ≡ state_then (state_then old.state (led_by_end old.state))
       (led_by_left old.state (are_left new.pending.received))
   pub before : new.before ≡ Other
@@ -105,7 +108,7 @@ course_of making = record {
 
 -- the records of the made order of what packets tell
 abbrev pub order_of : ℕ → Exchange → List Numbered
-order_of within exchange = made_order within exchange.opened_by exchange.packet exchange.second
+order_of within exchange = made_order within exchange.opened_by (opening_moment exchange)
     (values_of exchange.received.now) (values_of exchange.sent.now) exchange.end
 
 -- all is left, and the opening is shown
@@ -120,4 +123,4 @@ pub record Begins (exchange : Exchange) (making : Making) : Type 0 where
   pub answering : making.is_answering ≡ false
   pub before : making.before ≡ Other
   pub opens : making.numbered
-      ≡ opening exchange.opened_by exchange.packet exchange.second ∷ []
+      ≡ opening exchange.opened_by (opening_moment exchange) ∷ []

@@ -6,6 +6,7 @@ use Rattle.bgp_recording.specs.declared.ordering.Exchange.{Exchange}
 use Rattle.bgp_recording.specs.declared.message.Message.{Message}
 use Rattle.streams.specs.declared.connection.End.{End}
 use Rattle.streams.specs.declared.passed.Side.TheVariants.{Local}
+use Rattle.bgp_recording.specs.Moments.{opening_moment}
 use Rattle.bgp_recording.specs.Tells.{Tells, numbered_of}
 
 -- a clock of packets: a later packet has no lesser second
@@ -47,5 +48,5 @@ pub record IsTold (exchange : Exchange) : Type 0 where
 -- these records tell it
 abbrev pub IsMade : ℕ → Exchange → List Entry → Type 0
 IsMade within exchange entries =
-    Tells within exchange.opened_by exchange.packet exchange.second exchange.received.now
+    Tells within exchange.opened_by (opening_moment exchange) exchange.received.now
     exchange.sent.now exchange.end (map numbered_of entries)

@@ -2,6 +2,7 @@
 use Rattle.std.specs.Prelude.{ℕ, List, [], ◌∷◌, Option, None, Some, map}
 use Rattle.bgp_wire.specs.declared.header.MessageType.{MessageType}
 use Rattle.bgp_recording.specs.declared.message.Message.{Message}
+use Rattle.bgp_recording.specs.declared.pending.Moment.{Moment}
 use Rattle.bgp_recording.specs.Changes.{code_in}
 
 -- the fields are those of a Message
@@ -10,6 +11,7 @@ pub record MessageValue : Type 0 where
   pub kind : Option MessageType
   pub packet : ℕ
   pub second : ℕ
+  pub micro : Option ℕ
 
 abbrev pub message_value : Message → MessageValue
 message_value message = record {
@@ -17,7 +19,13 @@ message_value message = record {
   kind = message.kind;
   packet = message.packet;
   second = message.second;
+  micro = message.micro;
 }
+
+-- its packet
+abbrev pub value_moment : MessageValue → Moment
+value_moment message =
+    record { packet = message.packet; second = message.second; micro = message.micro }
 
 abbrev pub values_of : List Message → List MessageValue
 values_of messages = map message_value messages

@@ -240,6 +240,7 @@ fn message_at<'a>(
         kind,
         packet: moment.packet,
         second: moment.second,
+        micro: moment.micro,
     }
 }
 

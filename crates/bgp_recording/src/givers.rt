@@ -4,20 +4,29 @@ ghost use Rattle.std.specs.Prelude.{◌≡◌, ◌<◌, ◌≤◌, [], Some, IfS
 ghost use Rattle.std.specs.List.{AllByRecursion};
 ghost use Rattle.bgp_recording.specs.First.{IsFirst};
 ghost use Rattle.bgp_recording.specs.Givers.{giver, given_by, later_of, earlier_of};
+ghost use Rattle.bgp_recording.specs.Moments.{moment_of};
 ghost use Rattle.bgp_recording.specs.Givers.{AreLatest, AreEarliest, IsAt, IsNotEmpty};
 
 use crate::pending::Moment;
 use std::alloc::{AllocError, Allocator};
 use streams::Run;
 
+/// The packet of a run.
+fn moment_of(run: &Run) -> Moment
+    ensures { result ≡ moment_of run.now }
+{
+    Moment {
+        packet: run.packet,
+        second: run.second,
+        micro: run.micro,
+    }
+}
+
 /// The later packet of both, by number.
 fn later(best: Option<Moment>, run: &Run) -> Moment
     ensures { result ≡ later_of best run.now }
 {
-    let moment = Moment {
-        packet: run.packet,
-        second: run.second,
-    };
+    let moment = moment_of(run);
     match best {
         Some(best) if moment.packet < best.packet => best,
         _ => moment,
@@ -28,10 +37,7 @@ fn later(best: Option<Moment>, run: &Run) -> Moment
 fn earlier(best: Option<Moment>, run: &Run) -> Moment
     ensures { result ≡ earlier_of best run.now }
 {
-    let moment = Moment {
-        packet: run.packet,
-        second: run.second,
-    };
+    let moment = moment_of(run);
     match best {
         Some(best) if best.packet < moment.packet => best,
         _ => moment,
@@ -52,6 +58,7 @@ pub(crate) fn latest<A: Allocator>(alloc: A, runs: &[Run]) -> Result<Vec<Run, A>
             count: run.count,
             packet: moment.packet,
             second: moment.second,
+            micro: moment.micro,
         })?;
         best = Some(moment);
     }
@@ -77,6 +84,7 @@ pub(crate) fn earliest<A: Allocator>(
             count: run.count,
             packet: moment.packet,
             second: moment.second,
+            micro: moment.micro,
         })?;
         best = Some(moment);
         left = before;
@@ -126,10 +134,7 @@ impl<'a> Cursor<'a> {
     {
         while let Some(run) = self.run() {
             if place - self.base < run.count {
-                return Some(Moment {
-                    packet: run.packet,
-                    second: run.second,
-                });
+                return Some(moment_of(run));
             }
             self.base += run.count;
             self.index += 1;

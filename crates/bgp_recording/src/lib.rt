@@ -35,6 +35,6 @@ pub use laws::{
 pub use making::{FramedConnection, Recording, frame_connection, make_records};
 pub use message::Message;
 pub use ordering::{Exchange, made_entries};
-pub use pending::{Pending, Place};
+pub use pending::{Moment, Pending, Place};
 pub use standing::Before;
 pub use state::State;

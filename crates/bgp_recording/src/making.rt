@@ -44,10 +44,7 @@ fn own_end(end: Option<End>) -> Option<Moment>
 {
     let end = end?;
     match end.side {
-        Side::Local => Some(Moment {
-            packet: end.packet,
-            second: end.second,
-        }),
+        Side::Local => Some(Moment::of_end(end)),
         Side::Peer => None,
     }
 }
@@ -113,6 +110,7 @@ impl<'a, A: Allocator> FramedConnection<'a, A> {
             opened_by: connection.opened_by,
             packet: connection.packet,
             second: connection.second,
+            micro: connection.micro,
             received: &self.received.messages,
             sent: &self.sent.messages,
             end: connection.end,

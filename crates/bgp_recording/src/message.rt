@@ -3,8 +3,10 @@
 ghost use Rattle.std.specs.Prelude.{◌≡◌, ◌↔◌, Some, IsTrue};
 ghost use Rattle.bgp_wire.specs.ErrorCode.{error_code as number_of};
 ghost use Rattle.bgp_recording.specs.Changes.{answers_before_open, error_code, rejects};
+ghost use Rattle.bgp_recording.specs.Moments.{moment_in};
 ghost use Rattle.bgp_recording.specs.Waiting.{is_code};
 
+use crate::pending::Moment;
 use bgp_prefix::Seconds;
 use bgp_wire::{ErrorCode, MessageType};
 
@@ -23,9 +25,22 @@ pub struct Message<'a> {
     pub packet: u64,
     /// The packet's second.
     pub second: Seconds,
+    /// The microseconds of that second's fraction, where the recording has one.
+    pub micro: Option<u32>,
 }
 
 impl Message<'_> {
+    /// Returns its packet.
+    pub fn moment(&self) -> Moment
+        ensures { result ≡ moment_in self.now }
+    {
+        Moment {
+            packet: self.packet,
+            second: self.second,
+            micro: self.micro,
+        }
+    }
+
     /// Whether it is of this type.
     pub(crate) fn is(&self, kind: MessageType) -> bool
         ensures { IsTrue result ↔ (self.now.kind ≡ Some kind) }

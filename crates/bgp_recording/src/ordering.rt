@@ -5,6 +5,7 @@ ghost use Rattle.std.specs.List.{AllByRecursion};
 ghost use Rattle.bgp_recording.specs.Changes.{awaits_keepalive, just_sent, opened_state};
 ghost use Rattle.bgp_recording.specs.Told.{IsTold, IsMade};
 ghost use Rattle.bgp_recording.specs.Tells.{HasSecond, numbered_of};
+ghost use Rattle.bgp_recording.specs.Moments.{opening_moment};
 ghost use Rattle.bgp_recording.specs.MadeOrder.{first_waits, first_is_answered, after_next};
 ghost use Rattle.bgp_recording.specs.Steps.{ShowsReceived, ShowsSent, ShowsEnd, Begins};
 ghost use Rattle.bgp_recording.specs.Steps.{Shows, StepsOrEnds};
@@ -12,7 +13,7 @@ ghost use Rattle.bgp_recording.specs.Steps.{answering_after, course_of, order_of
 
 use crate::entry::Entry;
 use crate::message::Message;
-use crate::pending::{Pending, Place, Turn};
+use crate::pending::{Moment, Pending, Place, Turn};
 use crate::putting::{Shown, put_change, put_message};
 use crate::standing::{Before, Standing, led_by_end, led_by_left};
 use crate::state::State;
@@ -32,12 +33,27 @@ pub struct Exchange<'l, 'a> {
     pub packet: u64,
     /// The second of that packet.
     pub second: Seconds,
+    /// The microseconds of that second's fraction, where the recording has one.
+    pub micro: Option<u32>,
     /// The messages that the local system received, in their order.
     pub received: &'l [Message<'a>],
     /// Those that it sent.
     pub sent: &'l [Message<'a>],
     /// The end of the connection, where there is one.
     pub end: Option<End>,
+}
+
+impl Exchange<'_, '_> {
+    /// Returns the connection's first packet.
+    pub fn first_packet(&self) -> Moment
+        ensures { result ≡ opening_moment self.now }
+    {
+        Moment {
+            packet: self.packet,
+            second: self.second,
+            micro: self.micro,
+        }
+    }
 }
 
 /// An order while it is made.
@@ -109,10 +125,7 @@ impl<'l, 'a, A: Allocator> Making<'l, 'a, A> {
         let led = old.led_by_received(message.kind, is_answer_next);
         self.standing = old.after_received(&message, led, is_answered);
         self.last = second;
-        let entry = Entry {
-            packet: message.packet,
-            record: Record::In(second, message.octets),
-        };
+        let entry = Entry::new(message.moment(), Record::In(second, message.octets));
         put_message(&mut self.entries, entry, second, old.state, led)?;
         Ok(())
     }
@@ -130,10 +143,7 @@ impl<'l, 'a, A: Allocator> Making<'l, 'a, A> {
         let led = old.led_by_sent(message.kind);
         self.standing = old.after_sent(message.kind, led);
         self.last = second;
-        let entry = Entry {
-            packet: message.packet,
-            record: Record::Out(second, message.octets),
-        };
+        let entry = Entry::new(message.moment(), Record::Out(second, message.octets));
         put_message(&mut self.entries, entry, second, old.state, led)?;
         Ok(())
     }
@@ -146,7 +156,7 @@ impl<'l, 'a, A: Allocator> Making<'l, 'a, A> {
         ensures answering { self.new.is_answering ≡ false }
     {
         let shown = Shown {
-            packet: end.packet,
+            moment: Moment::of_end(end),
             second: end.second.max(self.last),
         };
         let old = self.standing;
@@ -212,7 +222,7 @@ fn begun<'l, 'a, A: Allocator>(
     let state = opening_state(exchange.opened_by);
     let mut entries = Vec::new(alloc);
     let shown = Shown {
-        packet: exchange.packet,
+        moment: exchange.first_packet(),
         second: exchange.second,
     };
     put_change(&mut entries, shown, State::Idle, Some(state))?;

@@ -11,6 +11,7 @@ ghost use Rattle.bgp_recording.specs.Leads.{MayReceiveNext, MayPass, MaySendNext
 ghost use Rattle.streams.specs.declared.passed.Side.TheVariants.{Local};
 ghost use Rattle.bgp_recording.specs.Leads.{is_next_taken, turn_by, turn_of, place_after};
 ghost use Rattle.bgp_recording.specs.MadeOrder.{is_taken};
+ghost use Rattle.bgp_recording.specs.Moments.{end_moment};
 ghost use Rattle.bgp_recording.specs.Values.{message_value};
 
 use crate::message::Message;
@@ -18,11 +19,28 @@ use bgp_prefix::Seconds;
 use bgp_wire::MessageType;
 use streams::{End, Side};
 
-/// A packet of the recording, and its second.
-#[derive(Clone, Copy)]
-pub(crate) struct Moment {
-    pub(crate) packet: u64,
-    pub(crate) second: Seconds,
+/// A packet of the recording, and its time.
+#[derive(Clone, Copy, Debug, PartialEq, Eq)]
+pub struct Moment {
+    /// Its number, counted from 1.
+    pub packet: u64,
+    /// Its second.
+    pub second: Seconds,
+    /// The microseconds of that second's fraction, where the recording has one.
+    pub micro: Option<u32>,
+}
+
+impl Moment {
+    /// Returns the packet of an end.
+    pub fn of_end(end: End) -> Moment
+        ensures { result ≡ end_moment end }
+    {
+        Moment {
+            packet: end.packet,
+            second: end.second,
+            micro: end.micro,
+        }
+    }
 }
 
 /// What stands next in the order.
@@ -139,16 +157,9 @@ impl<'l, 'a> Pending<'l, 'a> {
         ensures { result ≡ own_of (pending_of self.now).sent self.now.end }
     {
         if let Some(message) = self.next_sent() {
-            return Some(Moment {
-                packet: message.packet,
-                second: message.second,
-            });
+            return Some(message.moment());
         }
-        let end = self.end?;
-        Some(Moment {
-            packet: end.packet,
-            second: end.second,
-        })
+        Some(Moment::of_end(self.end?))
     }
 
     /// Whether a received message is next, which waits or not.

@@ -1,18 +1,21 @@
 //! Records appended to those that are made already.
 
 ghost use Rattle.std.specs.Prelude.{◌≡◌, ◌++◌, ◌∷◌, OnOk, map};
+ghost use Rattle.bgp_recording.specs.Moments.{entry_moment};
 ghost use Rattle.bgp_recording.specs.Tells.{change, numbered_of};
 
 use crate::entry::Entry;
+use crate::pending::Moment;
 use crate::state::State;
 use bgp_prefix::Seconds;
 use mrt::Record;
 use std::alloc::{AllocError, Allocator};
 
-/// When a change of state is shown: the packet and the second of what led to it.
+/// When a change of state is shown: the packet of what led to it, and the second at which the order
+/// handles that.
 #[derive(Clone, Copy)]
 pub(crate) struct Shown {
-    pub(crate) packet: u64,
+    pub(crate) moment: Moment,
     pub(crate) second: Seconds,
 }
 
@@ -24,13 +27,11 @@ pub(crate) fn put_change<A: Allocator>(
     led: Option<State>,
 ) -> Result<(), AllocError>
     ensures { OnOk result (map numbered_of entries.new.items
-        ≡ map numbered_of entries.old.items ++ change shown.packet shown.second state led) }
+        ≡ map numbered_of entries.old.items ++ change shown.moment shown.second state led) }
 {
     if let Some(led) = led {
-        entries.push(Entry {
-            packet: shown.packet,
-            record: Record::Change(shown.second, state.number(), led.number()),
-        })?;
+        let record = Record::Change(shown.second, state.number(), led.number());
+        entries.push(Entry::new(shown.moment, record))?;
     }
     Ok(())
 }
@@ -46,10 +47,10 @@ pub(crate) fn put_message<'a, A: Allocator>(
 ) -> Result<(), AllocError>
     ensures { OnOk result (map numbered_of entries.new.items
         ≡ map numbered_of entries.old.items
-        ++ numbered_of entry.entry ∷ change entry.entry.packet second state led) }
+        ++ numbered_of entry.entry ∷ change (entry_moment entry.entry) second state led) }
 {
     let shown = Shown {
-        packet: entry.packet,
+        moment: entry.moment(),
         second,
     };
     entries.push(entry)?;

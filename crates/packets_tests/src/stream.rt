@@ -99,6 +99,7 @@ fn are_opened(alloc: Global) -> bool {
         opened_by: Side::Peer,
         packet: 10,
         second: 110,
+        micro: Some(10000),
     };
     connections.count() == 2
         && connections.opening(2) == Some(second)

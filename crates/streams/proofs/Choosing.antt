@@ -101,6 +101,7 @@ told_is n (s ∷ before) g connection one fine shows =
       opened_by = shows.opened_by ∙ ap (λ o. unwrap_or o g.first_from) one.1.opener ∙ ap (unwrap_or (opener_of (s ∷ before))) one.0.first_from;
       packet = shows.packet ∙ one.0.packet;
       second = shows.second ∙ one.0.second;
+      micro = shows.micro ∙ one.0.micro;
       received = stream_is Peer (s ∷ before) g.received connection.received (one.1.received none) shows.received_octets shows.received_runs;
       sent = stream_is Local (s ∷ before) g.sent connection.sent (one.1.sent none) shows.sent_octets shows.sent_runs;
       end = shows.end ∙ one.1.end;
@@ -114,4 +115,5 @@ opens_is n (s ∷ before) g opening one opens = record {
   opened_by = opens.opened_by ∙ ap (λ o. unwrap_or o g.first_from) one.1.opener ∙ ap (unwrap_or (opener_of (s ∷ before))) one.0.first_from;
   packet = opens.packet ∙ one.0.packet;
   second = opens.second ∙ one.0.second;
+  micro = opens.micro ∙ one.0.micro;
 }

@@ -15,13 +15,13 @@ use Rattle.streams.specs.declared.gathered.Given.{Given}
 use Rattle.streams.specs.declared.gathered.Giver.{Giver}
 use Rattle.streams.specs.declared.passed.Side.{Side}
 use Rattle.streams.specs.declared.passed.Side.TheVariants.{Local, Peer}
-use Rattle.streams.specs.Given.{total, giver_at}
-use Rattle.streams.specs.Passed.{Segment}
+use Rattle.streams.specs.Given.{total, giver_at, run_giver}
+use Rattle.streams.specs.Passed.{Segment, giver_of}
 use Rattle.streams.specs.History.{given_of, start_of}
 use Rattle.streams.specs.Refusals.{cut, time_back, fault_at, first_fault}
 use Rattle.streams.specs.Connections.{connections_of, numbered, put_at, last_index, is_between, begins, has_octets, has_others, first_in, closing_by, end_by, end_of_connection}
 use Rattle.streams.specs.Choice.{IsStreamOf, Tells, TellsOf, refusal_of, numbered_one, IsAnswered}
-use Rattle.streams.specs.Clock.{AreInOrder, GoesFrom, IsClocked}
+use Rattle.streams.specs.Clock.{AreInOrder, GoesFrom, HasFractions, IsClocked}
 use Rattle.streams.proofs.Runs.{total-cons}
 use Rattle.streams.proofs.Known.{joined}
 use Rattle.streams.proofs.Histories.{given_other}
@@ -29,15 +29,23 @@ use Rattle.streams.proofs.Moments.{cases_side, nothing, own_given, either_gives,
 use Rattle.streams.proofs.Taking.{fault_more}
 use Rattle.streams.proofs.Connecting.{connections_more, no_connections}
 
--- one of the segments has this packet, of this second
-abbrev pub Has : List Segment → ℕ → ℕ → Type 0
-Has [] packet second = ⊥
-Has (s ∷ before) packet second = ((s.packet ≡ packet) × (s.second ≡ second)) ⊎ Has before packet second
+-- one of the segments has this packet, with its time
+abbrev pub Has : List Segment → Giver → Type 0
+Has [] giver = ⊥
+Has (s ∷ before) giver = (giver_of s ≡ giver) ⊎ Has before giver
 
--- the second of the last packet that isn't after this one
+-- what the last packet has that isn't after this one
+abbrev pub value_of : {X : Type 0} → (Giver → X) → X → List Segment → ℕ → X
+value_of of none [] packet = none
+value_of of none (s ∷ before) packet = cond (nat_le s.packet packet) (of (giver_of s)) (value_of of none before packet)
+
+-- its second
 abbrev pub clock_of : List Segment → ℕ → ℕ
-clock_of [] packet = 0
-clock_of (s ∷ before) packet = cond (nat_le s.packet packet) s.second (clock_of before packet)
+clock_of segments packet = value_of (λ (giver : Giver). giver.second) 0 segments packet
+
+-- the fraction of that
+abbrev pub fraction_of : List Segment → ℕ → Option ℕ
+fraction_of segments packet = value_of (λ (giver : Giver). giver.micro) None segments packet
 
 -- the segments' seconds are at most this
 abbrev pub AtMost : ℕ → List Segment → Type 0
@@ -71,40 +79,40 @@ rises (s ∷ before) h packet later le =
       ]
     ]
 
-has_below : (segments : List Segment) (bound packet second : ℕ) → AllByRecursion (λ (earlier : Segment). earlier.packet < bound) segments → Has segments packet second → packet < bound
-has_below [] bound packet second all has = absurd has
-has_below (s ∷ before) bound packet second all has = elim has [
-  | inl here ↦ omega (arith, all.0, here.0)
-  | inr more ↦ has_below before bound packet second all.1 more
+has_below : (segments : List Segment) (bound : ℕ) (giver : Giver) → AllByRecursion (λ (earlier : Segment). earlier.packet < bound) segments → Has segments giver → giver.packet < bound
+has_below [] bound giver all has = absurd has
+has_below (s ∷ before) bound giver all has = elim has [
+  | inl here ↦ omega (arith, all.0, ap (λ (g : Giver). g.packet) here)
+  | inr more ↦ has_below before bound giver all.1 more
 ]
 
-clock_at : (segments : List Segment) (packet second : ℕ) → AreInOrder segments → Has segments packet second → second ≡ clock_of segments packet
-clock_at [] packet second order has = absurd has
-clock_at (s ∷ before) packet second order has =
-    let at = λ (t : Bool). cond t s.second (clock_of before packet) in
+value_at : {X : Type 0} (of : Giver → X) (none : X) (segments : List Segment) (giver : Giver) → AreInOrder segments → Has segments giver → of giver ≡ value_of of none segments giver.packet
+value_at of none [] giver order has = absurd has
+value_at of none (s ∷ before) giver order has =
+    let at = λ (t : Bool). cond t (of (giver_of s)) (value_of of none before giver.packet) in
     elim has [
-      | inl here ↦ sym (ap at (le-leb s.packet packet (omega (arith, here.0))) ∙ here.1)
-      | inr more ↦ clock_at before packet second order.1 more ∙ sym (ap at (lt-leb s.packet packet (has_below before s.packet packet second order.0 more)))
+      | inl here ↦ sym (ap at (le-leb s.packet giver.packet (omega (arith, ap (λ (g : Giver). g.packet) here))) ∙ ap of here)
+      | inr more ↦ value_at of none before giver order.1 more ∙ sym (ap at (lt-leb s.packet giver.packet (has_below before s.packet giver order.0 more)))
     ]
 
-first_has : (s : Segment) (before : List Segment) → Has (s ∷ before) (first_in s before).packet (first_in s before).second
-first_has s [] = inl (refl, refl)
+first_has : (s : Segment) (before : List Segment) → Has (s ∷ before) (giver_of (first_in s before))
+first_has s [] = inl refl
 first_has s (last ∷ before) = inr (first_has last before)
 
-first_least : (s : Segment) (before : List Segment) (packet second : ℕ) → AreInOrder (s ∷ before) → Has (s ∷ before) packet second → (first_in s before).packet ≤ packet
-first_least s [] packet second order has = elim has [
-  | inl here ↦ omega (arith, here.0)
+first_least : (s : Segment) (before : List Segment) (giver : Giver) → AreInOrder (s ∷ before) → Has (s ∷ before) giver → (first_in s before).packet ≤ giver.packet
+first_least s [] giver order has = elim has [
+  | inl here ↦ omega (arith, ap (λ (g : Giver). g.packet) here)
   | inr more ↦ absurd more
 ]
-first_least s (last ∷ before) packet second order has = elim has [
-  | inr more ↦ first_least last before packet second order.1 more
+first_least s (last ∷ before) giver order has = elim has [
+  | inr more ↦ first_least last before giver order.1 more
   | inl here ↦
-      let lt = has_below (last ∷ before) s.packet (first_in last before).packet (first_in last before).second order.0 (first_has last before) in
-      omega (arith, lt, here.0)
+      let lt = has_below (last ∷ before) s.packet (giver_of (first_in last before)) order.0 (first_has last before) in
+      omega (arith, lt, ap (λ (g : Giver). g.packet) here)
 ]
 
 -- who gave an octet is one of the segments
-given_has : (side : Side) (segments : List Segment) (place : ℕ) (given : Given) → given_of side segments place ≡ Some given → Has segments given.giver.packet given.giver.second
+given_has : (side : Side) (segments : List Segment) (place : ℕ) (given : Given) → given_of side segments place ≡ Some given → Has segments given.giver
 given_has side [] place given h = absurd (none-some given (sym (nothing side place) ∙ h))
 given_has side (s ∷ before) place given h = elim (cases_side s.sender side) [
   | inr other ↦ inr (given_has side before place given (sym (given_other s side before place other) ∙ h))
@@ -112,26 +120,30 @@ given_has side (s ∷ before) place given h = elim (cases_side s.sender side) [
     | inl earlier ↦ inr (given_has side before place given earlier)
     | inr now ↦
         let of = of_piece _ _ _ place given now.1 in
-        inl (ap (λ (g : Given). g.giver.packet) (sym of.is), ap (λ (g : Given). g.giver.second) (sym of.is))
+        inl (ap (λ (g : Given). g.giver) (sym of.is))
   ]
 ]
 
-end_has : (segments : List Segment) (end : End) → end_of_connection segments ≡ Some end → Has segments end.packet end.second
+-- the packet of an end
+abbrev pub ender_of : End → Giver
+ender_of end = record { packet = end.packet; second = end.second; micro = end.micro }
+
+end_has : (segments : List Segment) (end : End) → end_of_connection segments ≡ Some end → Has segments (ender_of end)
 end_has [] end h = absurd (none-some end h)
 end_has (s ∷ before) end h = elim (either_gives (end_of_connection before) (end_by s) end h) [
   | inl earlier ↦ inr (end_has before end earlier)
   | inr now ↦
-      let is = (cond_some (s.fin || s.rst) (record { packet = s.packet; second = s.second; side = s.sender; closing = closing_by s }) end now.1).1 in
-      inl (ap (λ (e : End). e.packet) is, ap (λ (e : End). e.second) is)
+      let is = (cond_some (s.fin || s.rst) (record { packet = s.packet; second = s.second; micro = s.micro; side = s.sender; closing = closing_by s }) end now.1).1 in
+      inl (ap ender_of is)
 ]
 
 -- what holds of each giver holds of each run
-each_run : (Q : ℕ → ℕ → Type 0) (runs : List Run) → AllByRecursion (λ (run : Run). 1 ≤ run.count) runs
-    → ((place : ℕ) (giver : Giver) → place < total runs → giver_at runs place ≡ Some giver → Q giver.packet giver.second)
-    → AllByRecursion (λ (run : Run). Q run.packet run.second) runs
+each_run : (Q : Giver → Type 0) (runs : List Run) → AllByRecursion (λ (run : Run). 1 ≤ run.count) runs
+    → ((place : ℕ) (giver : Giver) → place < total runs → giver_at runs place ≡ Some giver → Q giver)
+    → AllByRecursion (λ (run : Run). Q (run_giver run)) runs
 each_run Q [] counted each = tt
 each_run Q (run ∷ runs) counted each =
-    let own : Giver = record { packet = run.packet; second = run.second } in (
+    let own : Giver = run_giver run in (
       each 0 own (omega (arith, total-cons run runs, counted.0)) (ap (λ (t : Bool). cond t (Some own) (giver_at runs (0 - run.count))) (lt-ltb 0 run.count (omega (arith, counted.0)))),
       each_run Q runs counted.1 (λ place giver lt is.
           let back : place + run.count - run.count ≡ place = omega arith in
@@ -140,7 +152,7 @@ each_run Q (run ∷ runs) counted each =
           ∙ ap (giver_at runs) back ∙ is)),
     )
 
-stream_has : (side : Side) (segments : List Segment) (stream : Stream) → IsStreamOf side segments stream → (place : ℕ) (giver : Giver) → place < total stream.runs.now → giver_at stream.runs.now place ≡ Some giver → Has segments giver.packet giver.second
+stream_has : (side : Side) (segments : List Segment) (stream : Stream) → IsStreamOf side segments stream → (place : ℕ) (giver : Giver) → place < total stream.runs.now → giver_at stream.runs.now place ≡ Some giver → Has segments giver
 stream_has side segments stream of place giver lt is =
     let within : place < length stream.octets.now = omega (arith, lt, of.covered) in
     let octet = get_or stream.octets.now place 0 in
@@ -165,29 +177,49 @@ never_fall (s ∷ before) h =
     let time = neither (time_back s before) _ (neither (cut s) _ parts.1).1 in
     (fall_none s before time.0 rest, rest)
 
-end_goes : (clock : ℕ → ℕ) (first : ℕ) (end : Option End) → ((e : End) → end ≡ Some e → GoesFrom clock first e.packet e.second) → IfSome end (λ (e : End). GoesFrom clock first e.packet e.second)
-end_goes clock first None h = tt
-end_goes clock first (Some e) h = h e refl
+each_end : (Q : End → Type 0) (end : Option End) → ((e : End) → end ≡ Some e → Q e) → IfSome end Q
+each_end Q None h = tt
+each_end Q (Some e) h = h e refl
+
+-- the fraction of each packet's second is that of the segment
+fractions : (s : Segment) (before : List Segment) (connection : Connection) → AreInOrder (s ∷ before) → TellsOf (first_in s before) (s ∷ before) connection → HasFractions connection
+fractions s before connection order tells =
+    let segments = s ∷ before in
+    let fraction = fraction_of segments in
+    let at = value_at (λ (giver : Giver). giver.micro) None segments in
+    let Is : Giver → Type 0 = λ (giver : Giver). giver.micro ≡ fraction_of (s ∷ before) giver.packet in
+    record {
+      fraction = fraction;
+      begins = tells.micro ∙ at (giver_of (first_in s before)) order (first_has s before) ∙ ap fraction (sym tells.packet);
+      received = each_run Is connection.received.runs.now tells.received.counted
+          (λ place giver lt is. at giver order (stream_has Peer segments connection.received tells.received place giver lt is));
+      sent = each_run Is connection.sent.runs.now tells.sent.counted
+          (λ place giver lt is. at giver order (stream_has Local segments connection.sent tells.sent place giver lt is));
+      ends = each_end (λ (e : End). e.micro ≡ fraction_of (s ∷ before) e.packet) connection.end (λ e is. at (ender_of e) order (end_has segments e (sym tells.end ∙ is)));
+    }
 
 clocked : (s : Segment) (before : List Segment) (connection : Connection) → AreInOrder (s ∷ before) → first_fault (s ∷ before) ≡ None → TellsOf (first_in s before) (s ∷ before) connection → IsClocked connection
 clocked s before connection order fine tells =
     let segments = s ∷ before in
     let clock = clock_of segments in
     let first : connection.packet ≡ (first_in s before).packet = tells.packet in
-    let goes = λ (packet second : ℕ) (has : Has (s ∷ before) packet second).
-    let second_is = clock_at (s ∷ before) packet second order has in
-    let least : connection.packet ≤ packet = omega (arith, first, first_least s before packet second order has) in
-    let both : GoesFrom (clock_of (s ∷ before)) connection.packet packet second = (second_is, least) in
+    let at = value_at (λ (giver : Giver). giver.second) 0 segments in
+    let Goes : Giver → Type 0 = λ (giver : Giver). GoesFrom (clock_of (s ∷ before)) connection.packet giver.packet giver.second in
+    let goes = λ (giver : Giver) (has : Has (s ∷ before) giver).
+    let second_is = at giver order has in
+    let least : connection.packet ≤ giver.packet = omega (arith, first, first_least s before giver order has) in
+    let both : GoesFrom (clock_of (s ∷ before)) connection.packet giver.packet giver.second = (second_is, least) in
     both in
     record {
       clock = clock;
       rises = rises segments (never_fall segments fine);
-      begins = tells.second ∙ clock_at segments (first_in s before).packet (first_in s before).second order (first_has s before) ∙ ap clock (sym first);
-      received = each_run (GoesFrom clock connection.packet) connection.received.runs.now tells.received.counted
-          (λ place giver lt is. goes giver.packet giver.second (stream_has Peer segments connection.received tells.received place giver lt is));
-      sent = each_run (GoesFrom clock connection.packet) connection.sent.runs.now tells.sent.counted
-          (λ place giver lt is. goes giver.packet giver.second (stream_has Local segments connection.sent tells.sent place giver lt is));
-      ends = end_goes clock connection.packet connection.end (λ e is. goes e.packet e.second (end_has segments e (sym tells.end ∙ is)));
+      begins = tells.second ∙ at (giver_of (first_in s before)) order (first_has s before) ∙ ap clock (sym first);
+      received = each_run Goes connection.received.runs.now tells.received.counted
+          (λ place giver lt is. goes giver (stream_has Peer segments connection.received tells.received place giver lt is));
+      sent = each_run Goes connection.sent.runs.now tells.sent.counted
+          (λ place giver lt is. goes giver (stream_has Local segments connection.sent tells.sent place giver lt is));
+      ends = each_end (λ (e : End). GoesFrom (clock_of (s ∷ before)) connection.packet e.packet e.second) connection.end (λ e is. goes (ender_of e) (end_has segments e (sym tells.end ∙ is)));
+      fractions = fractions s before connection order tells;
     }
 
 -- the segments of a connection are in the order of all

@@ -8,15 +8,15 @@ use Rattle.std.proofs.lemmas.List.{get_or_append_left, get_or-append_right}
 use Rattle.streams.specs.declared.connection.Run.{Run}
 use Rattle.streams.specs.declared.gathered.Giver.{Giver}
 use Rattle.streams.specs.declared.gathered.Given.{Given}
-use Rattle.streams.specs.Given.{total, giver_at, known_at, piece_at}
-use Rattle.streams.proofs.Runs.{below, giver_of, total-cons}
+use Rattle.streams.specs.Given.{total, giver_at, known_at, piece_at, run_giver}
+use Rattle.streams.proofs.Runs.{below, total-cons}
 
 -- a place of the runs has a giver, and a place after them none
 pub giver_within : (runs : List Run) (place : ℕ) → place < total runs → (giver : Giver) × (giver_at runs place ≡ Some giver)
 giver_within [] place h = absurd (omega arith)
 giver_within (r ∷ rs) place h =
     elim (cases_lt place r.count) [
-      | inl lt ↦ (giver_of r, rw (lt-ltb place r.count lt))
+      | inl lt ↦ (run_giver r, rw (lt-ltb place r.count lt))
       | inr ge ↦
           let rest = giver_within rs (place - r.count) (omega (arith, total-cons r rs)) in
           (rest.0, rw (le-ltb place r.count ge) rest.1)

@@ -58,6 +58,7 @@ pub record TellsOf (first : Segment) (segments : List Segment) (connection : Con
     pub opened_by : connection.opened_by ≡ unwrap_or (opener_of segments) first.sender
     pub packet : connection.packet ≡ first.packet
     pub second : connection.second ≡ first.second
+    pub micro : connection.micro ≡ first.micro
     pub received : IsStreamOf Peer segments connection.received
     pub sent : IsStreamOf Local segments connection.sent
     pub end : connection.end ≡ end_of_connection segments
@@ -95,6 +96,7 @@ pub record OpensAsOf (first : Segment) (segments : List Segment) (opening : Open
   pub opened_by : opening.opened_by ≡ unwrap_or (opener_of segments) first.sender
   pub packet : opening.packet ≡ first.packet
   pub second : opening.second ≡ first.second
+  pub micro : opening.micro ≡ first.micro
 
 abbrev pub OpensAs : List Segment → Opening → Type 0
 OpensAs [] opening = ⊥

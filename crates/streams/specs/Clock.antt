@@ -1,4 +1,4 @@
--- The packets of a connection, and the clock that they go by.
+-- The packets of a connection, the clock that they go by, and the fractions of their seconds.
 use Rattle.std.specs.Prelude.{ℕ, ◌≡◌, ◌<◌, ◌≤◌, List, [], ◌∷◌, Option, IfSome}
 use Rattle.std.specs.List.{AllByRecursion}
 use Rattle.streams.specs.declared.connection.Connection.{Connection}
@@ -18,6 +18,16 @@ AreInOrder (s ∷ before) =
 abbrev pub GoesFrom : (ℕ → ℕ) → ℕ → ℕ → ℕ → Type 0
 GoesFrom clock first packet second = (second ≡ clock packet) × (first ≤ packet)
 
+-- the fraction of a packet's second is one thing, wherever the connection tells it
+pub record HasFractions (connection : Connection) : Type 0 where
+  pub fraction : ℕ → Option ℕ
+  pub begins : connection.micro ≡ fraction connection.packet
+  pub received : AllByRecursion (λ (run : Run). run.micro ≡ fraction run.packet)
+      connection.received.runs.now
+  pub sent : AllByRecursion (λ (run : Run). run.micro ≡ fraction run.packet)
+      connection.sent.runs.now
+  pub ends : IfSome connection.end (λ (end : End). end.micro ≡ fraction end.packet)
+
 -- some clock, which never falls, is that of the connection's packets, the first of which it names
 pub record IsClocked (connection : Connection) : Type 0 where
   pub clock : ℕ → ℕ
@@ -31,6 +41,7 @@ pub record IsClocked (connection : Connection) : Type 0 where
       connection.sent.runs.now
   pub ends : IfSome connection.end
       (λ (end : End). GoesFrom clock connection.packet end.packet end.second)
+  pub fractions : HasFractions connection
 
 -- a connection that is answered goes by a clock, where its segments were taken in the order of
 -- their packets

@@ -48,6 +48,7 @@ end_by s = cond (s.fin || s.rst)
     (Some (record {
       packet = s.packet;
       second = s.second;
+      micro = s.micro;
       side = s.sender;
       closing = closing_by s;
     })) None

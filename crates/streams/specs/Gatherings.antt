@@ -61,6 +61,7 @@ pub record IsOf {Z : Type 0} (s : Segment) (gathering : Gathering Z) : Type 0 wh
   pub packet : gathering.packet ≡ s.packet
   pub first_from : gathering.first_from ≡ s.sender
   pub second : gathering.second ≡ s.second
+  pub micro : gathering.micro ≡ s.micro
 
 abbrev pub last_second_of : List Segment → ℕ
 last_second_of [] = 0
@@ -129,6 +130,7 @@ pub record Opens {Z : Type 0} (n : ℕ) (g : Gathering Z) (opening : Opening) : 
   pub opened_by : opening.opened_by ≡ unwrap_or g.opener g.first_from
   pub packet : opening.packet ≡ g.packet
   pub second : opening.second ≡ g.second
+  pub micro : opening.micro ≡ g.micro
 
 -- what of a connection is told
 pub record Shows {Z : Type 0} (n : ℕ) (g : Gathering Z) (connection : Connection) : Type 0
@@ -139,6 +141,7 @@ pub record Shows {Z : Type 0} (n : ℕ) (g : Gathering Z) (connection : Connecti
     pub opened_by : connection.opened_by ≡ unwrap_or g.opener g.first_from
     pub packet : connection.packet ≡ g.packet
     pub second : connection.second ≡ g.second
+    pub micro : connection.micro ≡ g.micro
     pub received_octets : connection.received.octets.now ≡ g.received.gathered.known.octets.items
     pub received_runs : connection.received.runs.now ≡ g.received.gathered.known.runs.items
     pub sent_octets : connection.sent.octets.now ≡ g.sent.gathered.known.octets.items

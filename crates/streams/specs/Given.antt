@@ -17,11 +17,15 @@ use Rattle.streams.specs.declared.stretch.Stretch.{Stretch}
 abbrev pub total : List Run → ℕ
 total runs = sum_by (λ run. run.count) runs
 
+-- who gave the octets of a run
+abbrev pub run_giver : Run → Giver
+run_giver run = record { packet = run.packet; second = run.second; micro = run.micro }
+
 -- who gave the octet at the place, by the runs
 abbrev pub giver_at : List Run → ℕ → Option Giver
 giver_at [] place = None
 giver_at (run ∷ runs) place = cond (nat_lt place run.count)
-    (Some (record { packet = run.packet; second = run.second }))
+    (Some (run_giver run))
     (giver_at runs (place - run.count))
 
 -- the octet at the place, as far as none is missing

@@ -8,6 +8,7 @@ use Rattle.streams.specs.declared.gathered.Giver.{Giver}
 pub record Segment : Type 0 where
   pub packet : ℕ
   pub second : ℕ
+  pub micro : Option ℕ
   pub sender : Side
   pub local_port : ℕ
   pub peer_port : ℕ
@@ -23,6 +24,7 @@ abbrev pub segment_of : Passed → Segment
 segment_of passed = record {
   packet = passed.packet;
   second = passed.second;
+  micro = passed.micro;
   sender = passed.from;
   local_port = passed.local_port;
   peer_port = passed.peer_port;
@@ -37,7 +39,7 @@ segment_of passed = record {
 
 -- the packet that held it
 abbrev pub giver_of : Segment → Giver
-giver_of s = record { packet = s.packet; second = s.second }
+giver_of s = record { packet = s.packet; second = s.second; micro = s.micro }
 
 abbrev pub is_side : Side → Side → Bool
 is_side Local Local = true

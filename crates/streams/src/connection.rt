@@ -11,6 +11,8 @@ pub struct Run {
     pub packet: u64,
     /// The packet's second.
     pub second: u32,
+    /// The microseconds of that second's fraction, where the recording has one.
+    pub micro: Option<u32>,
 }
 
 /// One direction of a connection. It borrows from who gathered it.
@@ -38,6 +40,8 @@ pub struct End {
     pub packet: u64,
     /// The packet's second.
     pub second: u32,
+    /// The microseconds of that second's fraction, where the recording has one.
+    pub micro: Option<u32>,
     /// Who sent it.
     pub side: Side,
     /// By which of both.
@@ -60,6 +64,8 @@ pub struct Connection<'a> {
     pub packet: u64,
     /// The second of its first packet.
     pub second: u32,
+    /// The microseconds of that second's fraction, where the recording has one.
+    pub micro: Option<u32>,
     /// What the peer sent.
     pub received: Stream<'a>,
     /// What the local system sent.
@@ -78,4 +84,5 @@ pub struct Opening {
     pub opened_by: Side,
     pub packet: u64,
     pub second: u32,
+    pub micro: Option<u32>,
 }

@@ -175,6 +175,7 @@ impl<A: Allocator + Copy> Direction<A> {
         let giver = Giver {
             packet: passed.packet,
             second: passed.second,
+            micro: passed.micro,
         };
         note(&mut self.shown, shown_by(passed.fin, &given), passed.packet)?;
         self.end = self.end_with(&given);

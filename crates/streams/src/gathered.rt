@@ -18,6 +18,7 @@ use std::collections::BTreeMap;
 pub struct Giver {
     pub packet: u64,
     pub second: u32,
+    pub micro: Option<u32>,
 }
 
 /// An octet, and who gave it first.

@@ -23,10 +23,11 @@ use std::alloc::{AllocError, Allocator};
 pub struct Gathering<A: Allocator> {
     pub local_port: u16,
     pub peer_port: u16,
-    /// Its first packet, who sent that, and its second.
+    /// Its first packet, who sent that, and its second with the microseconds of its fraction.
     pub packet: u64,
     pub first_from: Side,
     pub second: u32,
+    pub micro: Option<u32>,
     /// Who opened it, once it has a SYN.
     pub opener: Option<Side>,
     /// The sequence number of each side's SYN.
@@ -88,6 +89,7 @@ fn end_by(passed: &Passed<'_>) -> Option<End>
     Some(End {
         packet: passed.packet,
         second: passed.second,
+        micro: passed.micro,
         side: passed.from,
         closing: closing_by(passed),
     })
@@ -105,6 +107,7 @@ impl<A: Allocator + Copy> Gathering<A> {
             packet: passed.packet,
             first_from: passed.from,
             second: passed.second,
+            micro: passed.micro,
             opener: None,
             local_start: None,
             peer_start: None,
@@ -317,6 +320,7 @@ impl<A: Allocator + Copy> Gathering<A> {
             opened_by: self.opener.unwrap_or(self.first_from),
             packet: self.packet,
             second: self.second,
+            micro: self.micro,
         }
     }
 
@@ -332,6 +336,7 @@ impl<A: Allocator + Copy> Gathering<A> {
             opened_by: opening.opened_by,
             packet: opening.packet,
             second: opening.second,
+            micro: opening.micro,
             received: self.received.gathered.stream(),
             sent: self.sent.gathered.stream(),
             end: self.end,

@@ -34,8 +34,9 @@ pub fn missing_octets_are_the_first()
     ensures { MissingIsFirst }
 {}
 
-/// Law: the packets of a connection that is answered go by a clock that never falls, where its
-/// segments were taken in the order of their packets (`specs/Clock`).
+/// Law: the packets of a connection that is answered go by a clock that never falls, and the fraction
+/// of a packet's second is one thing, where its segments were taken in the order of their packets
+/// (`specs/Clock`).
 pub fn answered_connections_are_clocked()
     ensures { AnsweredIsClocked }
 {}

@@ -8,7 +8,7 @@
 //! ```text
 //! let mut connections = Connections::new(alloc);
 //! for .. {
-//!     connections.take(&Passed { packet, second, from: Side::Peer, .. })?;
+//!     connections.take(&Passed { packet, second, micro, from: Side::Peer, .. })?;
 //! }
 //! let connection = connections.choose(None, last_packet)?;
 //! for run in connection.received.runs {

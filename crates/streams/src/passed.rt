@@ -16,6 +16,8 @@ pub struct Passed<'a> {
     pub packet: u64,
     /// The packet's second.
     pub second: u32,
+    /// The microseconds of that second's fraction, where the recording has one.
+    pub micro: Option<u32>,
     /// Who sent it.
     pub from: Side,
     /// The local system's port.

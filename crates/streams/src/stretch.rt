@@ -1,9 +1,9 @@
 //! Octets of a stream that stand one after another.
 
 ghost use Rattle.std.specs.Prelude.{◌≡◌, ◌<◌, ◌+◌, ◌^◌, ◌++◌, ℕ, Some, None, cond, nat_lt, []};
-ghost use Rattle.std.specs.Prelude.{OnOk, length};
+ghost use Rattle.std.specs.Prelude.{◌↔◌, IsTrue, OnOk, length};
 ghost use Rattle.std.specs.Option.{option_or};
-ghost use Rattle.streams.specs.Given.{total, giver_at, known_at, piece_at, AreCounted};
+ghost use Rattle.streams.specs.Given.{total, giver_at, known_at, piece_at, run_giver, AreCounted};
 
 use crate::connection::{Run, Stream};
 use crate::gathered::Giver;
@@ -34,7 +34,7 @@ fn add_run<A: Allocator>(
     }
     let mut count = count;
     if let Some(last) = runs.pop() {
-        if last.packet == giver.packet && last.second == giver.second {
+        if is_of(&last, giver) {
             count += last.count;
         } else {
             runs.push(last)?;
@@ -44,14 +44,27 @@ fn add_run<A: Allocator>(
     Ok(())
 }
 
+/// Whether this giver gave the octets of a run.
+fn is_of(run: &Run, giver: Giver) -> bool
+    ensures { IsTrue result ↔ (run_giver run.now ≡ giver) }
+{
+    run.packet == giver.packet && run.second == giver.second && run.micro == giver.micro
+}
+
 /// So many octets of one giver.
 fn run_of(count: usize, giver: Giver) -> Run
-    ensures { result ≡ record { count = count; packet = giver.packet; second = giver.second } }
+    ensures { result ≡ record {
+      count = count;
+      packet = giver.packet;
+      second = giver.second;
+      micro = giver.micro;
+    } }
 {
     Run {
         count,
         packet: giver.packet,
         second: giver.second,
+        micro: giver.micro,
     }
 }
 

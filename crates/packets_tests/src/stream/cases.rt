@@ -15,13 +15,14 @@ pub struct Case {
     pub end: Option<End>,
 }
 
-/// So many octets that a packet gave in this second.
+/// So many octets that a packet gave in this second, as many milliseconds after it as its number.
 macro_rules! run {
     ($count:literal, $packet:literal, $second:literal) => {
         Run {
             count: $count,
             packet: $packet,
             second: $second,
+            micro: Some(1000 * $packet),
         }
     };
 }
@@ -44,6 +45,7 @@ const SENT: &[Run] = &[run!(49, 5, 100), run!(19, 6, 100)];
 const FIN_AT_10: Option<End> = Some(End {
     packet: 10,
     second: 103,
+    micro: Some(10000),
     side: Side::Peer,
     closing: Closing::Fin,
 });
@@ -51,6 +53,7 @@ const FIN_AT_10: Option<End> = Some(End {
 const RST_AT_10: Option<End> = Some(End {
     packet: 10,
     second: 103,
+    micro: Some(10000),
     side: Side::Peer,
     closing: Closing::Reset,
 });
@@ -196,6 +199,7 @@ pub static CASES: [Case; 25] = [
         end: Some(End {
             packet: 8,
             second: 101,
+            micro: Some(8000),
             side: Side::Peer,
             closing: Closing::Fin,
         }),

@@ -47,7 +47,8 @@ fn octets_at(stream: &'static [u8], place: usize, count: usize) -> &'static [u8]
 }
 
 impl Row {
-    /// The segment, where the SYNs of the peer and of the local system have these numbers.
+    /// The segment, where the SYNs of the peer and of the local system have these numbers. A packet
+    /// has as many milliseconds as its number.
     pub fn passed(&self, (peer_start, local_start): (u32, u32), packet: u64) -> Passed<'static> {
         let Row(second, from, (syn, fin, rst, is_altered), offset, acknowledges, count) = self;
         let (start, other) = match from {
@@ -58,6 +59,7 @@ impl Row {
         Passed {
             packet,
             second: *second,
+            micro: Some(1000 * (packet % 1000) as u32),
             from: *from,
             local_port: 179,
             peer_port: if *second < 110 { 40000 } else { 40001 },

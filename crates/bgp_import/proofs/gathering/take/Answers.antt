@@ -28,7 +28,7 @@ returns-in-Ok-clause-ok g c =
     let p = c.args.packet.now in
     let selected = rw (c.in-Ok-Some.is, c.in-Ok-Some.field-0-is) at c.segment_between.ensures in
     let sent : IsSentBy c.args.selection.now s.ends (Some from) = subst (IsSentBy c.args.selection.now s.ends) c.in-Some.is c.sender.ensures in (
-      passed_of p.number p.second (segment_value s) from ∷ [],
+      passed_of p.number (recorded_of p) (segment_value s) from ∷ [],
       record {
         found = Some (segment_value s);
         is_found = found_so c.args.selection.now (recorded_of p) _ _ (Ok (Some (segment_value s))) selected c.conversation.ensures c.read_segment.ensures;
