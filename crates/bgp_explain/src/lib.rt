@@ -45,7 +45,7 @@ pub use laws::{
 pub use left_out::LeftOut;
 pub use moments::{Moments, SentNotification, first_second};
 pub use opened::{JudgedCapture, judge_opened};
-pub use places::Places;
+pub use places::{Places, entry_place};
 pub use records::{
     ExplainedRecords, explain_records, put_deed_of, put_explained_records, put_lines_of,
 };

@@ -1,8 +1,8 @@
 //! Where the records that are judged stand.
 
 ghost use Rattle.std.specs.Prelude.{◌≡◌};
-ghost use Rattle.bgp_explain.specs.Places.{named_place, number_at, packet_at, place_with};
-ghost use Rattle.bgp_explain.specs.Places.{places_of};
+ghost use Rattle.bgp_explain.specs.Places.{counted, entry_place, named_place, number_at};
+ghost use Rattle.bgp_explain.specs.Places.{place_with, places_of, shown_place};
 
 use bgp_prefix::Seconds;
 use bgp_recording::Entry;
@@ -13,18 +13,19 @@ use bgp_why::Place;
 pub enum Places<'a> {
     /// As they are counted, from 1: they are all records of a capture's session.
     Counted,
-    /// So, and shown by the packets of these entries, of which they are the records.
+    /// So, and shown by the packets of these entries, of which they are the records: at the times of
+    /// the packets.
     Shown(&'a [Entry<'a>]),
     /// With these numbers, one after another: other records of their session stand between them.
     Numbered(&'a [u64]),
 }
 
-/// Returns the packet of the entry with this count, from 1, if there is one.
-fn packet_at(entries: &[Entry<'_>], count: u64) -> Option<u64>
-    ensures { result ≡ packet_at entries.now count }
+/// Returns the entry with this count, from 1, if there is one.
+fn entry_at<'a>(entries: &[Entry<'a>], count: u64) -> Option<Entry<'a>>
+    ensures { result ≡ counted entries.now count }
 {
     let index = count.checked_sub(1)?;
-    Some(entries.get(index as usize)?.packet)
+    Some(*entries.get(index as usize)?)
 }
 
 /// Returns the number with this count, from 1, or the count itself where there are fewer.
@@ -40,27 +41,50 @@ fn number_at(numbers: &[u64], count: u64) -> u64
     }
 }
 
-/// Returns the place of a record without a fraction of its second.
-fn place_with(number: u64, packet: Option<u64>, second: Seconds) -> Place
-    ensures { result ≡ place_with number packet second }
+/// Returns the place of a record of a capture, without a fraction of its second.
+fn place_with(number: u64, second: Seconds) -> Place
+    ensures { result ≡ place_with number second }
 {
     Place {
         number,
-        packet,
+        packet: None,
         second,
         micro: None,
     }
 }
 
+/// Returns where an entry's record stands that has this number: the packet that shows it, and the
+/// time of that.
+pub fn entry_place(number: u64, entry: &Entry<'_>) -> Place
+    ensures { result ≡ entry_place number entry.now }
+{
+    Place {
+        number,
+        packet: Some(entry.packet),
+        second: entry.second,
+        micro: entry.micro,
+    }
+}
+
+/// Returns where the record with this count stands: that of this entry, if there is one.
+fn shown_place(count: u64, second: Seconds, entry: Option<Entry<'_>>) -> Place
+    ensures { result ≡ shown_place count second entry.entry }
+{
+    match entry {
+        Some(entry) => entry_place(count, &entry),
+        None => place_with(count, second),
+    }
+}
+
 /// Returns where the record stands that has this count among those that are judged, and this
-/// second.
+/// second, unless a packet shows it.
 pub(crate) fn place_of(places: Places<'_>, count: u64, second: Seconds) -> Place
     ensures { result ≡ places_of places.entry count second }
 {
     match places {
-        Places::Counted => place_with(count, None, second),
-        Places::Shown(entries) => place_with(count, packet_at(entries, count), second),
-        Places::Numbered(numbers) => place_with(number_at(numbers, count), None, second),
+        Places::Counted => place_with(count, second),
+        Places::Shown(entries) => shown_place(count, second, entry_at(entries, count)),
+        Places::Numbered(numbers) => place_with(number_at(numbers, count), second),
     }
 }
 

@@ -30,7 +30,7 @@ opening_text session opening =
     codes "connection " ++ (decimal opening.number ++ (codes ": "
     ++ (endpoint_text (endpoint_of opening.opened_by session opening) ++ (codes " to "
     ++ (endpoint_text (endpoint_of (other_side opening.opened_by) session opening)
-    ++ (codes " at " ++ (when_text opening.second None
+    ++ (codes " at " ++ (when_text opening.second opening.micro
     ++ (codes " UTC, packet " ++ decimal opening.packet))))))))
 
 -- how many octets either side sent, whoever opened the connection first

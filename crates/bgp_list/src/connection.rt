@@ -45,7 +45,7 @@ fn put_opening<W: Sink>(lines: &mut Lines<'_, W>, session: &Session, opening: Op
     lines.put(b" to ");
     put_endpoint(lines, &endpoint_of(other_side(from), session, opening));
     lines.put(b" at ");
-    put_when(lines, opening.second, None);
+    put_when(lines, opening.second, opening.micro);
     lines.put(b" UTC, packet ");
     lines.put_decimal(opening.packet);
 }
@@ -63,8 +63,8 @@ fn put_octets<W: Sink>(lines: &mut Lines<'_, W>, first: usize, second: usize)
 
 /// Puts the line of a connection that isn't refused, whose opener sent so many octets, and the
 /// other system so many:
-/// `connection 1: 192.0.2.2:44467 to 192.0.2.1:179 at 2026-11-22 06:39:58 UTC, packet 3, octets
-/// sent 541 and 315`.
+/// `connection 1: 192.0.2.2:44467 to 192.0.2.1:179 at 2026-11-22 06:39:58.681502 UTC, packet 3,
+/// octets sent 541 and 315`.
 pub fn put_connection<W: Sink>(
     lines: &mut Lines<'_, W>,
     session: &Session,
