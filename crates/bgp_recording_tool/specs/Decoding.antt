@@ -1,6 +1,7 @@
 -- What decoding a recording reads, writes and answers: the lines of the records that are made of
 -- one connection.
-use Rattle.std.specs.Prelude.{◌≡◌, ◌⊎◌, ◌+◌, ℕ, Bool, List, Option, None, length, reverse}
+use Rattle.std.specs.Prelude.{◌≡◌, ◌⊎◌, ◌↔◌, ◌+◌, ℕ, Bool, List, Option, None, Some, length, map}
+use Rattle.std.specs.Prelude.{reverse}
 use Rattle.packets.specs.Packet.{Recorded}
 use Rattle.streams.specs.Choice.{IsAnswered}
 use Rattle.streams.specs.Connections.{numbered}
@@ -12,7 +13,12 @@ use Rattle.mrt.specs.Written.{IsAllowed}
 use Rattle.bgp_recording.specs.Captured.{records_of}
 use Rattle.bgp_recording.specs.declared.entry.Entry.{Entry}
 use Rattle.bgp_text.specs.Capture.{AreRecordLines}
+use Rattle.bgp_lines.specs.Form.{ArePlacedLines, PlacedRecord, nothing_before}
+use Rattle.bgp_lines.specs.Telling.{placed_as}
+use Rattle.bgp_lines.specs.declared.form.LineForm.{LineForm}
+use Rattle.bgp_lines.specs.declared.form.LineForm.TheVariants.{Plain}
 use Rattle.bgp_tool.specs.Answer.{IsWritten}
+use Rattle.bgp_tool.specs.declared.session_options.SessionOptions.{SessionOptions}
 use Rattle.bgp_import.specs.Captures.{shown_by}
 use Rattle.bgp_import.specs.Gathers.{HasReadAll, IsStopped, cut_short_by, failures_by}
 use Rattle.bgp_import.specs.Importing.{IsMadeOf}
@@ -34,11 +40,25 @@ use Rattle.bgp_recording_tool.specs.Told.{refused_status}
 abbrev pub HasLine : Session → Entry → Type 0
 HasLine session entry = IsAllowed (without_refresh session) None (shown_by entry)
 
+-- an entry's record, and the packet that shows it
+abbrev pub placed_by : Entry → PlacedRecord
+placed_by entry = placed_as (Some entry.packet) (shown_by entry)
+
+-- the lines of the records of all entries of a session, one after another
+abbrev pub AreEntryLines : LineForm → Session → List Entry → List ℕ → Type 0
+AreEntryLines form session entries text =
+    ArePlacedLines form session nothing_before (map placed_by entries) text
+
+-- in the plain form they are the lines of the records by themselves
+abbrev pub PlainLines : Type 0
+PlainLines = (session : Session) (entries : List Entry) (text : List ℕ)
+    → AreEntryLines Plain session entries text ↔ AreRecordLines session (records_of entries) text
+
 -- The session's packets have these segments, none of which is refused; and the sink goes from
 -- `empty` to `filled`.
-module _ {T : Type 0} (takes : T → T → List ℕ → Type 0) (failures : T → ℕ) (wanted : Import)
-    (packets : List Recorded) (segments : List Segment) (empty filled : T) (status : ℕ)
-    (remarks : List Remark) where
+module _ {T : Type 0} (takes : T → T → List ℕ → Type 0) (failures : T → ℕ) (form : LineForm)
+    (wanted : Import) (packets : List Recorded) (segments : List Segment) (empty filled : T)
+    (status : ℕ) (remarks : List Remark) where
   -- these entries are made of the connection that is meant, and the lines of their records were
   -- written
   pub record DecodesMade : Type 0 where
@@ -49,7 +69,7 @@ module _ {T : Type 0} (takes : T → T → List ℕ → Type 0) (failures : T �
     pub chosen : IsAnswered wanted.connection (length packets) (numbered (reverse segments))
         connection
     pub made : IsMadeOf wanted connection entries notes
-    pub are_lines : AreRecordLines wanted.selection.session (records_of entries) text
+    pub are_lines : AreEntryLines form wanted.selection.session entries text
     pub written : IsWritten takes failures text 0 empty filled status
     pub remarked : remarks ≡ some_of (making_remarks None notes)
 
@@ -67,8 +87,8 @@ module _ {T : Type 0} (takes : T → T → List ℕ → Type 0) (failures : T �
 -- And the source goes from `old` to `new`. The members are the source's and the sink's.
 module _ {S T : Type 0} (gives : S → S → List ℕ → Type 0) (has_ended : S → Bool)
     (takes : T → T → List ℕ → Type 0) (source_failures : S → ℕ) (failures : T → ℕ)
-    (wanted : Import) (old new : S) (empty filled : T) (status : ℕ) (cut_short : Option CutShort)
-    (remarks : List Remark) where
+    (form : LineForm) (wanted : Import) (old new : S) (empty filled : T) (status : ℕ)
+    (cut_short : Option CutShort) (remarks : List Remark) where
   -- it was read to its end, or to where it was cut short, and the connection that is meant was
   -- decoded or refused
   pub record DecodesRead : Type 0 where
@@ -78,7 +98,8 @@ module _ {S T : Type 0} (gives : S → S → List ℕ → Type 0) (has_ended : S
     pub cut : Bool
     pub all : HasReadAll gives has_ended wanted.selection old new octets packets segments cut
     pub is_cut : cut_short ≡ cut_short_by cut (length packets)
-    pub decodes : DecodesOne takes failures wanted packets segments empty filled status remarks
+    pub decodes : DecodesOne takes failures form wanted packets segments empty filled status
+        remarks
     pub counted : source_failures new ≡ source_failures old
 
   -- or the recording is refused
@@ -93,14 +114,14 @@ module _ {S T : Type 0} (gives : S → S → List ℕ → Type 0) (has_ended : S
     pub counted : source_failures new ≡ source_failures old + failures_by refusal
 
 abbrev pub DecodesRecording : {S T X : Type 0} → (S → S → List ℕ → Type 0) → (S → Bool)
-    → (T → T → List ℕ → Type 0) → (S → ℕ) → (T → ℕ) → Session → RecordingOptions → S → S → T → T
-    → Judged X → Type 0
-DecodesRecording gives has_ended takes source_failures failures session options old new
+    → (T → T → List ℕ → Type 0) → (S → ℕ) → (T → ℕ) → SessionOptions → RecordingOptions → S → S
+    → T → T → Judged X → Type 0
+DecodesRecording gives has_ended takes source_failures failures options recording old new
     empty filled judged =
-    let wanted = import_of session options in
+    let wanted = import_of options.session recording in
     IsUnmeant wanted old new empty filled judged.status judged.cut_short judged.remarks.items
     ⊎ (IsMisfit wanted None
-    × (DecodesRead gives has_ended takes source_failures failures wanted old new empty filled
-    judged.status judged.cut_short judged.remarks.items
-    ⊎ TellsRefusal gives has_ended takes source_failures failures wanted old new empty filled
-    judged.status judged.cut_short judged.remarks.items))
+    × (DecodesRead gives has_ended takes source_failures failures options.form wanted old new empty
+    filled judged.status judged.cut_short judged.remarks.items
+    ⊎ TellsRefusal gives has_ended takes source_failures failures options.form wanted old new empty
+    filled judged.status judged.cut_short judged.remarks.items))

@@ -6,7 +6,6 @@ use Rattle.std.specs.Borrow.{Bor}
 use Rattle.std.specs.Io.KnownBytes.{Consumes, IsAtEnd, prepend_known}
 use Rattle.bgp_prefix.specs.Shown.{ShownRecord}
 use Rattle.bgp_open.specs.declared.config.Config.{Config}
-use Rattle.bgp_prefix.specs.declared.session.Session.{Session}
 use Rattle.mrt.specs.FromRead.{ReaderState, fresh_reader, reader_state, Gives}
 use Rattle.mrt.specs.FromWrite.{WriterState, writer_state, Takes}
 use Rattle.mrt.specs.declared.source.FromRead.{FromRead}
@@ -16,6 +15,7 @@ use Rattle.bgp_tool.specs.Opened.{TellsWriter}
 use Rattle.bgp_tool.specs.OpenedCapture.{DecodesOpened}
 use Rattle.bgp_tool.specs.declared.note.Note.{Note}
 use Rattle.bgp_tool.specs.declared.note.Note.TheVariants.{Unread, OutOfMemory}
+use Rattle.bgp_tool.specs.declared.session_options.SessionOptions.{SessionOptions}
 use Rattle.bgp_explain.specs.LeftOut.{nothing_left_out}
 use Rattle.bgp_explain.specs.Opened.{ReportsOpened}
 use Rattle.bgp_explain.specs.declared.report.Report.{Report}
@@ -86,7 +86,7 @@ pub record ReadsFile {R W X : Type 0} (remaining : R → Option (List ℕ)) (fil
       × (outcome.cut_short ≡ None) × (outcome.remarks.items ≡ []))
 
 module _ {R W X : Type 0} (remaining : R → Option (List ℕ)) (contents : W → Option (List ℕ))
-    (options : RecordingOptions) (file : Bor (List ℕ)) (reader : R) (old new : FromWrite W)
+    (recording : RecordingOptions) (file : Bor (List ℕ)) (reader : R) (old new : FromWrite W)
     (outcome : FileOutcome X) where
   abbrev pub GivesRead : FromRead (Peeked R) → FromRead (Peeked R) → List ℕ → Type 0
   GivesRead from to octets =
@@ -100,7 +100,7 @@ module _ {R W X : Type 0} (remaining : R → Option (List ℕ)) (contents : W �
   JudgesFile config report may_lack = ReadsFile remaining file reader old new outcome
       (λ from to. JudgesRecording GivesRead (λ source. (reader_state source).has_ended)
       TakesWritten (λ source. (reader_state source).failures)
-      (λ sink. (writer_state sink).failures) config report options from to old new
+      (λ sink. (writer_state sink).failures) config report recording from to old new
       (judged_by outcome))
       (λ peeked. ReportsOpened (peeked_remaining remaining) contents config may_lack file peeked
       (writer_state old) (writer_state new) (record {
@@ -113,13 +113,13 @@ module _ {R W X : Type 0} (remaining : R → Option (List ℕ)) (contents : W �
         left_out = outcome.left_out;
       }) report)
 
-  abbrev pub DecodesFile : Session → Type 0
-  DecodesFile session = ReadsFile remaining file reader old new outcome
+  abbrev pub DecodesFile : SessionOptions → Type 0
+  DecodesFile options = ReadsFile remaining file reader old new outcome
       (λ from to. DecodesRecording GivesRead (λ source. (reader_state source).has_ended)
       TakesWritten (λ source. (reader_state source).failures)
-      (λ sink. (writer_state sink).failures) session options from to old new
+      (λ sink. (writer_state sink).failures) options recording from to old new
       (judged_by outcome))
-      (λ peeked. DecodesOpened (peeked_remaining remaining) contents session file peeked
+      (λ peeked. DecodesOpened (peeked_remaining remaining) contents options file peeked
       (writer_state old) (writer_state new)
       (record { status = outcome.status; skipped = outcome.skipped; note = outcome.note })
       × IsFalse outcome.confederation × (outcome.left_out ≡ nothing_left_out))

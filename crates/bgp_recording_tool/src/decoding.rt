@@ -2,17 +2,16 @@
 
 ghost use Rattle.std.specs.Prelude.{◌≡◌, ◌<◌, ◌^◌, ℕ, List, None, IfOk, length, reverse};
 ghost use Rattle.std.specs.List.{AllByRecursion};
-ghost use Rattle.bgp_text.specs.Capture.{AreRecordLines};
 ghost use Rattle.bgp_text.specs.Lines.{Writes};
 ghost use Rattle.bgp_tool.specs.Answer.{IsWritten};
-ghost use Rattle.bgp_recording.specs.Captured.{records_of};
 ghost use Rattle.bgp_import.specs.Gathers.{HoldsSession, cut_short_by};
 ghost use Rattle.bgp_import.specs.Making.{HoldsTaken};
 ghost use Rattle.bgp_import.specs.Refusals.{refusal_line};
 ghost use Rattle.bgp_import.specs.Selecting.{AreTaken};
 ghost use Rattle.packets.specs.Packet.{Recorded};
 ghost use Rattle.streams.specs.Passed.{Segment};
-ghost use Rattle.bgp_recording_tool.specs.Decoding.{DecodesOne, DecodesRecording, HasLine};
+ghost use Rattle.bgp_recording_tool.specs.Decoding.{AreEntryLines, DecodesOne};
+ghost use Rattle.bgp_recording_tool.specs.Decoding.{DecodesRecording, HasLine};
 ghost use Rattle.bgp_recording_tool.specs.Options.{IsOneFamily};
 ghost use Rattle.bgp_recording_tool.specs.Remarks.{IsHelp, making_remarks, notes_of, some_of};
 ghost use Rattle.bgp_recording_tool.specs.Told.{refused_status};
@@ -24,17 +23,23 @@ use crate::remarking::making_remarks;
 use bgp_import::{
     CutShort, Gathered, Import, RecordingOptions, Refusal, gather, put_refusal, records_of,
 };
+use bgp_lines::{LineForm, Teller};
 use bgp_prefix::{RouteRefresh, Session};
 use bgp_recording::{Entry, Recording};
-use bgp_text::{Lines, put_record};
-use bgp_tool::{Status, hand_over};
+use bgp_text::Lines;
+use bgp_tool::{SessionOptions, Status, hand_over};
 use mrt::{Sink, Source};
 use std::alloc::{AllocError, Allocator};
 
-/// Puts the line of each entry's record.
-fn put_entries<W: Sink>(lines: &mut Lines<'_, W>, session: &Session, entries: &[Entry<'_>])
+/// Puts the line of each entry's record, in this form.
+fn put_entries<W: Sink>(
+    lines: &mut Lines<'_, W>,
+    session: &Session,
+    form: LineForm,
+    entries: &[Entry<'_>],
+)
     requires { AllByRecursion (HasLine session.now) entries.now }
-    ensures { (text : List ℕ) × AreRecordLines session.now (records_of entries.now) text
+    ensures { (text : List ℕ) × AreEntryLines form session.now entries.now text
         × Writes lines.old lines.new text }
 {
     // A ROUTE-REFRESH has a line, too: its header is a faulty one.
@@ -42,20 +47,26 @@ fn put_entries<W: Sink>(lines: &mut Lines<'_, W>, session: &Session, entries: &[
         refresh: RouteRefresh::NotOffered,
         ..*session
     };
+    let mut teller = Teller::new(form);
     for entry in entries {
-        put_record(lines, &calm, &entry.record);
+        teller.put_record(lines, &calm, Some(entry.packet), &entry.record);
     }
 }
 
-/// Writes the line of each entry's record, and answers the exit status.
-fn write_entries<W: Sink>(sink: &mut W, session: &Session, entries: &[Entry<'_>]) -> u8
+/// Writes the line of each entry's record, in this form, and answers the exit status.
+fn write_entries<W: Sink>(
+    sink: &mut W,
+    session: &Session,
+    form: LineForm,
+    entries: &[Entry<'_>],
+) -> u8
     requires sink { W.failures sink.old < 2 ^ 63 }
     requires lines { AllByRecursion (HasLine session.now) entries.now }
-    ensures { (text : List ℕ) × AreRecordLines session.now (records_of entries.now) text
+    ensures { (text : List ℕ) × AreEntryLines form session.now entries.now text
         × IsWritten W.takes W.failures text 0 sink.old sink.new result }
 {
     let mut lines = Lines::new(sink);
-    put_entries(&mut lines, session, entries);
+    put_entries(&mut lines, session, form, entries);
     let status = hand_over(&mut lines, Status::Done);
     // No effect: it ends the loan of the sink.
     lines.into_sink();
@@ -111,9 +122,10 @@ fn made_remarks<A: Allocator + Copy>(
     Ok(remarks)
 }
 
-/// Decodes the records of the connection that is named, or of the only one.
+/// Decodes the records of the connection that is named, or of the only one, in this form.
 fn decode_gathered<A: Allocator + Copy, W: Sink>(
     alloc: A,
+    form: LineForm,
     import: &Import,
     gathered: &Gathered<A>,
     sink: &mut W,
@@ -124,8 +136,8 @@ fn decode_gathered<A: Allocator + Copy, W: Sink>(
     ensures { (packets : List Recorded) (segments : List Segment)
         → AreTaken import.now.selection 0 packets segments
         → HoldsSession (reverse segments) (length packets) gathered.now
-        → DecodesOne W.takes W.failures import.now packets segments sink.old sink.new
-        result.status result.remarks.items
+        → DecodesOne W.takes W.failures form import.now packets segments sink.old
+        sink.new result.status result.remarks.items
         × (result.cut_short ≡ cut_short_by gathered.now.is_cut_short (length packets)) }
 {
     let cut_short = gathered.cut_short();
@@ -137,8 +149,9 @@ fn decode_gathered<A: Allocator + Copy, W: Sink>(
         Ok(remarks) => remarks,
         Err(AllocError) => return refused(alloc, sink, gathered.no_memory(), cut_short),
     };
+    let entries = made.entries.as_slice();
     Judged {
-        status: write_entries(sink, &import.selection.session, made.entries.as_slice()),
+        status: write_entries(sink, &import.selection.session, form, entries),
         cut_short,
         remarks,
     }
@@ -147,29 +160,29 @@ fn decode_gathered<A: Allocator + Copy, W: Sink>(
 /// Decodes the records that are made of one connection of a recording that a source gives: the one
 /// that is named, or the only one. It writes one line a record, as
 /// [`decode_capture`](bgp_tool::decode_capture) does, or `recording refused: NUMBER NAME at packet
-/// N`.
+/// N`. In words a line names the packet that shows the record, too.
 ///
 /// Answers the exit status: 0, or that of the refusal: 3, 4 for memory and 5 for a device, which
 /// may be the sink. It is 64 where no recording can be meant, as of
 /// [`judge_recording`](crate::judge_recording).
 pub fn decode_recording<A: Allocator + Copy, R: Source, W: Sink>(
     alloc: A,
-    session: &Session,
-    options: &RecordingOptions,
+    options: &SessionOptions,
+    recording: &RecordingOptions,
     source: &mut R,
     sink: &mut W,
 ) -> Judged<A>
     requires source { R.failures source.old < 2 ^ 63 }
     requires sink { W.failures sink.old < 2 ^ 63 }
-    ensures { DecodesRecording R.gives R.has_ended W.takes R.failures W.failures session.now
-        options.now source.old source.new sink.old sink.new result }
+    ensures { DecodesRecording R.gives R.has_ended W.takes R.failures W.failures options.now
+        recording.now source.old source.new sink.old sink.new result }
 {
-    let import = import_of(session, options);
+    let import = import_of(&options.session, recording);
     if let Some(remark) = misfit_of(&import) {
         return misfit(alloc, remark);
     }
     match gather(alloc, &import.selection, source) {
-        Ok(gathered) => decode_gathered(alloc, &import, &gathered, sink),
+        Ok(gathered) => decode_gathered(alloc, options.form, &import, &gathered, sink),
         Err(refusal) => refused(alloc, sink, refusal, None),
     }
 }

@@ -18,8 +18,7 @@ use bgp_explain::{JudgedCapture, LeftOut, Report, judge_opened};
 use bgp_import::{CutShort, RecordingOptions};
 use bgp_judge::Tracker;
 use bgp_open::Config;
-use bgp_prefix::Session;
-use bgp_tool::{Note, Outcome, Ready, decode_opened_capture, unopened, unwritten};
+use bgp_tool::{Note, Outcome, Ready, SessionOptions, decode_opened_capture, unopened, unwritten};
 use mrt::{FromRead, FromWrite, Sink, SkippedRecords};
 use std::alloc::Allocator;
 use std::io;
@@ -182,15 +181,15 @@ pub fn judge_file<'a, A: Allocator + Copy, T: Tracker<A>, R: Read + Drop, W: Wri
 /// The reader is asked for few octets at a time: put a buffer before a file.
 pub fn decode_file<'a, A: Allocator + Copy, R: Read + Ready + Drop, W: Write>(
     alloc: A,
-    session: &Session,
-    options: &RecordingOptions,
+    options: &SessionOptions,
+    recording: &RecordingOptions,
     file: &'a str,
     opened: io::Result<R>,
     sink: &mut FromWrite<W>,
 ) -> FileOutcome<'a, A>
     requires { (writer_state sink.old).failures < 2 ^ 63 }
-    ensures decoded { IfOk opened (λ reader. DecodesFile R.remaining W.contents options.now
-        file.entry reader sink.old sink.new result session.now) }
+    ensures decoded { IfOk opened (λ reader. DecodesFile R.remaining W.contents recording.now
+        file.entry reader sink.old sink.new result options.now) }
     ensures unopened { IfErr opened (λ error. IsUnopened file.entry (error_kind error)
         (record { status = result.status; skipped = result.skipped; note = result.note })
         × (result.cut_short ≡ None) × IsFalse result.confederation
@@ -205,12 +204,12 @@ pub fn decode_file<'a, A: Allocator + Copy, R: Read + Ready + Drop, W: Write>(
         }
     };
     if !peeked.is_recording() {
-        let outcome = decode_opened_capture(alloc, session, file, Ok(peeked), sink);
+        let outcome = decode_opened_capture(alloc, options, file, Ok(peeked), sink);
         return without_remarks(alloc, outcome, false, LeftOut::nothing());
     }
     let mut source = FromRead::new(peeked);
     let failures = sink.failures();
-    let judged = decode_recording(alloc, session, options, &mut source, sink);
+    let judged = decode_recording(alloc, options, recording, &mut source, sink);
     let note = recording_note(judged.status, file, &source, sink, failures);
     FileOutcome {
         status: judged.status,

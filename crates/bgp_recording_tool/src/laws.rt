@@ -1,5 +1,7 @@
-//! Laws of the reason of a verdict on a recording, each on a function that does nothing.
+//! Laws of the reason of a verdict on a recording, and of the lines of its records, each on a
+//! function that does nothing.
 
+ghost use Rattle.bgp_recording_tool.specs.Decoding.{PlainLines};
 ghost use Rattle.bgp_recording_tool.specs.Laws.{MadeCouldHaveStood};
 ghost use Rattle.bgp_recording_tool.specs.Laws.{RecordingsAreExplainedAsJudged};
 
@@ -23,3 +25,9 @@ pub fn recordings_are_explained_as_judged()
     recordings_are_made_once();
     records_have_just_one_verdict();
 }
+
+/// In the plain form the lines that [`decode_recording`](crate::decode_recording) writes are those
+/// of the records, each by itself, whatever packets show them.
+pub fn each_record_has_one_plain_line()
+    ensures { PlainLines }
+{}

@@ -36,7 +36,10 @@ pub use headline::{
     judge_recording, what_is_unfinished_is_so,
 };
 pub use judging::{Judged, status_of};
-pub use laws::{made_records_could_have_stood, recordings_are_explained_as_judged};
+pub use laws::{
+    each_record_has_one_plain_line, made_records_could_have_stood,
+    recordings_are_explained_as_judged,
+};
 pub use options::import_of;
 pub use peeked::Peeked;
 pub use remark::{Remark, RemarkKind};

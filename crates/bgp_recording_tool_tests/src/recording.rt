@@ -17,22 +17,26 @@ use mrt::Record;
 use std::alloc::{AllocError, Allocator, Global};
 use streams::{Connection, Run, Side, Stream};
 
-/// An OPEN, a KEEPALIVE and an UPDATE of 45 octets that came.
+/// An OPEN, a KEEPALIVE and an UPDATE of 45 octets that came. Each packet has as many microseconds
+/// as its number.
 static RECEIVED: [Run; 3] = [
     Run {
         count: 49,
         packet: 4,
         second: 100,
+        micro: Some(4),
     },
     Run {
         count: 19,
         packet: 7,
         second: 101,
+        micro: Some(7),
     },
     Run {
         count: 45,
         packet: 8,
         second: 102,
+        micro: Some(8),
     },
 ];
 
@@ -42,25 +46,27 @@ static SENT: [Run; 2] = [
         count: 49,
         packet: 5,
         second: 100,
+        micro: Some(5),
     },
     Run {
         count: 19,
         packet: 6,
         second: 100,
+        micro: Some(6),
     },
 ];
 
-/// A session that comes up, and announces a route.
-static RECORDS: [Record<'static>; 9] = [
-    Record::Change(100, 1, 3),
-    Record::Out(100, &OPEN_A),
-    Record::Change(100, 3, 4),
-    Record::In(100, &OPEN_B),
-    Record::Out(100, &KEEPALIVE),
-    Record::Change(100, 4, 5),
-    Record::In(101, &KEEPALIVE),
-    Record::Change(101, 5, 6),
-    Record::In(102, &ANNOUNCES_10),
+/// A session that comes up, and announces a route: each record with its packet.
+static RECORDS: [(u64, Record<'static>); 9] = [
+    (1, Record::Change(100, 1, 3)),
+    (5, Record::Out(100, &OPEN_A)),
+    (5, Record::Change(100, 3, 4)),
+    (4, Record::In(100, &OPEN_B)),
+    (6, Record::Out(100, &KEEPALIVE)),
+    (6, Record::Change(100, 4, 5)),
+    (7, Record::In(101, &KEEPALIVE)),
+    (7, Record::Change(101, 5, 6)),
+    (8, Record::In(102, &ANNOUNCES_10)),
 ];
 
 /// The octets of pieces, one after another.
@@ -96,13 +102,21 @@ fn is_covered(stream: &Stream<'_>) -> bool
     }
 }
 
-/// Whether the records are those, in their order.
+/// Whether an entry has as many microseconds as the number of its packet.
+fn has_fraction(entry: &Entry<'_>) -> bool {
+    match entry.micro {
+        Some(micro) => u64::from(micro) == entry.packet,
+        None => false,
+    }
+}
+
+/// Whether the records are those, in their order, each with its packet and the fraction of that.
 fn are_records(entries: &[Entry<'_>]) -> bool {
     if entries.len() != RECORDS.len() {
         return false;
     }
-    for (entry, record) in entries.iter().zip(&RECORDS) {
-        if entry.record != *record {
+    for (entry, (packet, record)) in entries.iter().zip(&RECORDS) {
+        if entry.packet != *packet || !has_fraction(entry) || entry.record != *record {
             return false;
         }
     }
@@ -118,6 +132,7 @@ fn connection_of<'a>(received: &'a [u8], sent: &'a [u8]) -> Connection<'a> {
         opened_by: Side::Peer,
         packet: 1,
         second: 100,
+        micro: Some(1),
         received: Stream {
             octets: received,
             runs: &RECEIVED,

@@ -3,8 +3,9 @@
 ghost use Rattle.std.specs.Prelude.{◌≡◌, ◌<◌, ◌≤◌, length};
 
 use arrayvec::ArrayVec;
+use bgp_lines::LineForm;
 use bgp_prefix::Session;
-use bgp_tool::decode_capture;
+use bgp_tool::{SessionOptions, decode_capture};
 use byteorder::{BigEndian, ByteOrder};
 use mrt::{Failed, FromRead, FromWrite, Reader, Sink};
 use std::alloc::Allocator;
@@ -23,7 +24,7 @@ const RECORD: usize = HEADER + 48 + 65535;
 struct Watch<'a, P, A> {
     printer: &'a P,
     alloc: A,
-    session: &'a Session,
+    options: SessionOptions,
     record: ArrayVec<u8, RECORD>,
     is_quiet: bool,
 }
@@ -56,7 +57,7 @@ impl<P: Print, A: Allocator + Copy> Watch<'_, P, A> {
         let mut reader = Reader::new(self.alloc);
         let mut source = FromRead::new(self.record.as_slice());
         let mut sink = FromWrite::new(io::writer(self.printer));
-        let _ = decode_capture(&mut reader, self.session, &mut source, &mut sink);
+        let _ = decode_capture(&mut reader, &self.options, &mut source, &mut sink);
     }
 }
 
@@ -81,18 +82,22 @@ impl<'a, C: Sink, P: Print, A: Allocator + Copy> Watched<'a, C, P, A> {
     pub fn new(
         alloc: A,
         capture: C,
-        session: &'a Session,
+        session: &Session,
         printer: &'a P,
         is_quiet: bool,
     ) -> Watched<'a, C, P, A>
         ensures { result.capture ≡ capture }
     {
+        let options = SessionOptions {
+            session: *session,
+            form: LineForm::Plain,
+        };
         Watched {
             capture,
             watch: Watch {
                 printer,
                 alloc,
-                session,
+                options,
                 record: ArrayVec::new(),
                 is_quiet,
             },

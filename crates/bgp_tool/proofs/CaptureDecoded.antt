@@ -1,6 +1,5 @@
 -- A capture's decoding that began with a fresh text, told by what the sink took.
 use Rattle.std.proofs.Common.{◌≡◌, ◌∙◌, ◌++◌, ◌+◌, ℕ, List, Bool, true, false, refl, sym, ap, subst, inl, inr, Option, Result}
-use Rattle.bgp_prefix.specs.declared.session.Session.{Session}
 use Rattle.mrt.specs.declared.fault.CaptureFault.{CaptureFault}
 use Rattle.mrt.specs.declared.sink.Sink as sinks
 use Rattle.mrt.specs.Progress.{failures_of}
@@ -9,6 +8,7 @@ use Rattle.bgp_text.specs.declared.lines.Lines.{Lines}
 use Rattle.bgp_text.specs.Outlet.{IsKept}
 use Rattle.bgp_text.specs.Lines.{Writes}
 use Rattle.bgp_judge.specs.Judging.{fault_in}
+use Rattle.bgp_tool.specs.declared.session_options.SessionOptions.{SessionOptions}
 use Rattle.bgp_tool.specs.CaptureDecoding.{PutsRecords, Finishes, DecodesCapture, DecodesWith, last_line_for}
 use Rattle.bgp_text.proofs.Pieces.{Joins, and_then}
 use Rattle.bgp_text.proofs.Fresh.{IsFresh, put_is, nothing_left, none_counted, one_counted}
@@ -21,11 +21,11 @@ sticky failures old new left held true false kept is = absurd kept
 sticky failures old new left held false after kept is = absurd (cc)
 
 module _ {R W : Type 0} {sinks' : sinks.Ghosts W} (law : Joins sinks') (gives : R → R → List ℕ → Type 0) (has_ended : R → Bool) (counts : R → ℕ)
-    (session : Session) (source source' : R) (lines middle lines' : Lines W sinks') (sink sink' : W) (fresh : IsFresh lines)
+    (options : SessionOptions) (source source' : R) (lines middle lines' : Lines W sinks') (sink sink' : W) (fresh : IsFresh lines)
     (reader' : ReaderState) (first : lines.outlet.sink.now ≡ sink) (last : sink' ≡ lines'.outlet.sink.now) where
-  decodes_capture : (answer : Result (Unit {0}) CaptureFault) (status : ℕ) → PutsRecords gives has_ended session source source' lines middle reader' answer
+  decodes_capture : (answer : Result (Unit {0}) CaptureFault) (status : ℕ) → PutsRecords gives has_ended options source source' lines middle reader' answer
       → Finishes middle lines' answer status → counts source' ≡ counts source + failures_of answer
-      → DecodesCapture gives has_ended sinks'.takes counts sinks'.failures session source source' sink sink' reader' status
+      → DecodesCapture gives has_ended sinks'.takes counts sinks'.failures options source source' sink sink' reader' status
   decodes_capture answer status puts ends counted =
       let wrote : Writes lines lines' (puts.text ++ last_line_for answer) = and_then law puts.wrote ends.wrote in
       let text = puts.text ++ last_line_for answer in record {
@@ -67,8 +67,8 @@ module _ {R W : Type 0} {sinks' : sinks.Ghosts W} (law : Joins sinks') (gives : 
 
   -- and so it is decoded with the same answer
   pub decodes_with : (answer : Result (Unit {0}) CaptureFault) (status : ℕ) (refused : Option CaptureFault)
-      → PutsRecords gives has_ended session source source' lines middle reader' answer
+      → PutsRecords gives has_ended options source source' lines middle reader' answer
       → Finishes middle lines' answer status → counts source' ≡ counts source + failures_of answer → refused ≡ fault_in answer
-      → DecodesWith gives has_ended sinks'.takes counts sinks'.failures session source source' sink sink' reader' status refused
+      → DecodesWith gives has_ended sinks'.takes counts sinks'.failures options source source' sink sink' reader' status refused
   unfolding decodes_capture
   decodes_with answer status refused puts ends counted is = (decodes_capture answer status puts ends counted, is)

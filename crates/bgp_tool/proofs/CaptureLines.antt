@@ -1,7 +1,6 @@
 -- The records of a capture, read one after another, and their lines.
 use Rattle.std.proofs.Common.{◌≡◌, ◌∙◌, ℕ, Bool, false, ◌+◌, ◌-◌, ◌^◌, ◌<◌, List, [], ◌∷◌, ◌++◌, length, refl, sym, ap, subst, arith, inl, inr, append_assoc, append-nil, length-append, Option, None, Result, Ok, Err}
 use Rattle.bgp_prefix.specs.Shown.{ShownRecord}
-use Rattle.bgp_prefix.specs.declared.session.Session.{Session}
 use Rattle.mrt.specs.declared.record.Record.{Record}
 use Rattle.mrt.specs.declared.fault.CaptureFault.{CaptureFault}
 use Rattle.mrt.specs.declared.record.Endpoints.{Endpoints}
@@ -17,15 +16,15 @@ use Rattle.mrt.proofs.OtherPairs.{others_chain}
 use Rattle.mrt.proofs.Advancing.{joined_more}
 use Rattle.mrt.proofs.AllowedRecord.{each_allowed}
 use Rattle.mrt.proofs.Chains.{joined_chain, records_chain, last_chain, pieces_chain, one_record, last_piece, no_pieces_there}
-use Rattle.bgp_text.specs.Capture.{IsRecordLine, AreRecordLines}
-use Rattle.bgp_tool.specs.CaptureDecoding.{EndsAt}
+use Rattle.bgp_lines.specs.Form.{Before, IsPlacedLine, before_behind, nothing_before}
+use Rattle.bgp_lines.specs.Telling.{placed_as}
+use Rattle.bgp_tool.specs.CaptureDecoding.{AreCaptureLines, EndsAt}
+use Rattle.bgp_tool.specs.declared.session_options.SessionOptions.{SessionOptions}
+use Rattle.bgp_tool.proofs.PlacedLines.{came_before, came_one_more, one_more}
 
--- one line more
-lines_more : (session : Session) (records : List ShownRecord) (text : List ℕ) (shown : ShownRecord) (line : List ℕ) → AreRecordLines session records text → IsRecordLine session shown line
-    → AreRecordLines session (records ++ shown ∷ []) (text ++ line)
-lines_more session [] text shown line are is = (line, [], is, refl, ap (λ (t : List ℕ). t ++ line) are ∙ sym (append-nil line))
-lines_more session (one ∷ records) text shown line are is =
-    (are.0, are.1 ++ line, are.2, lines_more session records are.1 shown line are.3 is, ap (λ (t : List ℕ). t ++ line) are.4 ∙ append_assoc are.0 are.1 line)
+-- what came before the next record, where these pieces were read
+abbrev pub came_in : List Piece → Before
+came_in pieces = came_before (records_of pieces) nothing_before
 
 no_length : (xs : List ℕ) → length xs ≡ 0 → xs ≡ []
 no_length [] none = refl
@@ -37,11 +36,11 @@ less_by a b n e some below = omega (arith, e, some, below)
 module _ {R : Type 0} (gives : R → R → List ℕ → Type 0) (has_ended : R → Bool)
     (gives_joined : (a b c : R) (xs ys : List ℕ) → gives a b xs → gives b c ys → gives a c (xs ++ ys))
     (count : R → ℕ) (counted : (a b : R) (xs : List ℕ) → gives a b xs → count b ≡ count a + length xs)
-    (session : Session) (source : R) where
+    (options : SessionOptions) (source : R) where
   -- what was read from the source, and the lines of its records
   pub record SoFar (now : R) (state : ReaderState) (text : List ℕ) : Type 0 where
     pub pieces : List Piece
-    pub each : ArePieces session None pieces
+    pub each : ArePieces options.session None pieces
     pub gave : gives source now (joined pieces)
     pub passed : state.passed ≡ length (joined pieces)
     pub last : state.last ≡ last_of None pieces
@@ -49,10 +48,11 @@ module _ {R : Type 0} (gives : R → R → List ℕ → Type 0) (has_ended : R �
     pub skipped : state.skipped ≡ skipped_in pieces
     pub calm : state.fault ≡ None
     pub going : state.is_ended ≡ false
-    pub are_lines : AreRecordLines session (records_of pieces) text
+    pub are_lines : AreCaptureLines options (records_of pieces) text
 
-  pub nothing_read : (state : ReaderState) → state ≡ fresh_reader → gives source source [] → SoFar source state []
-  nothing_read state fresh nothing = record {
+  pub nothing_read : (state : ReaderState) → state ≡ fresh_reader → gives source source []
+      → (so : SoFar source state []) × (came_in so.pieces ≡ nothing_before)
+  nothing_read state fresh nothing = let so : SoFar source state [] = record {
     pieces = [];
     each = tt;
     gave = nothing;
@@ -63,43 +63,43 @@ module _ {R : Type 0} (gives : R → R → List ℕ → Type 0) (has_ended : R �
     calm = ap (λ (s : ReaderState). s.fault) fresh;
     going = ap (λ (s : ReaderState). s.is_ended) fresh;
     are_lines = refl;
-  }
+  } in (so, refl)
 
   pub answer_of : (now next : R) (state after : ReaderState) (answer : Result (Option Record) CaptureFault) → state.fault ≡ None → state.is_ended ≡ false
-      → IsNext gives has_ended session now next state after answer → IsAnswer gives has_ended session now next state after answer
+      → IsNext gives has_ended options.session now next state after answer → IsAnswer gives has_ended options.session now next state after answer
   answer_of now next state after answer calm going is =
-      subst (λ (b : Bool). NextBy gives has_ended session None b now next state after answer) going
-      (subst (λ (f : Option CaptureFault). NextBy gives has_ended session f state.is_ended now next state after answer) calm is)
+      subst (λ (b : Bool). NextBy gives has_ended options.session None b now next state after answer) going
+      (subst (λ (f : Option CaptureFault). NextBy gives has_ended options.session f state.is_ended now next state after answer) calm is)
 
   -- a record of the session is one that a capture may have
-  pub allowed_answer : (now next : R) (state after : ReaderState) (shown : ShownRecord) → Answers gives has_ended session now next state after shown
-      → (last : Option ℕ) × IsAllowed session last shown
+  pub allowed_answer : (now next : R) (state after : ReaderState) (shown : ShownRecord) → Answers gives has_ended options.session now next state after shown
+      → (last : Option ℕ) × IsAllowed options.session last shown
   allowed_answer now next state after shown answer =
-      let piece = last_piece session state.last answer.skipped (Shown answer.octets) answer.pieces in (
+      let piece = last_piece options.session state.last answer.skipped (Shown answer.octets) answer.pieces in (
         last_of state.last answer.skipped,
-        subst (λ (r : ShownRecord). IsAllowed session (last_of state.last answer.skipped) r) answer.shown
-            (each_allowed session (last_of state.last answer.skipped) answer.octets piece.0),
+        subst (λ (r : ShownRecord). IsAllowed options.session (last_of state.last answer.skipped) r) answer.shown
+            (each_allowed options.session (last_of state.last answer.skipped) answer.octets piece.0),
       )
 
   -- it has octets
-  pub takes_some : (now next : R) (state after : ReaderState) (shown : ShownRecord) → (answer : Answers gives has_ended session now next state after shown)
+  pub takes_some : (now next : R) (state after : ReaderState) (shown : ShownRecord) → (answer : Answers gives has_ended options.session now next state after shown)
       → 0 < length (joined (answer.skipped ++ Shown answer.octets ∷ []))
   takes_some now next state after shown answer =
-      let piece = last_piece session state.last answer.skipped (Shown answer.octets) answer.pieces in
+      let piece = last_piece options.session state.last answer.skipped (Shown answer.octets) answer.pieces in
       let long = piece.0.whole.header in
       let many = ap length (joined_more answer.skipped (Shown answer.octets)) ∙ length-append (joined answer.skipped) answer.octets in omega arith
 
   -- less is left that the source may give
-  pub less_left : (now next : R) (state after : ReaderState) (shown : ShownRecord) → Answers gives has_ended session now next state after shown
+  pub less_left : (now next : R) (state after : ReaderState) (shown : ShownRecord) → Answers gives has_ended options.session now next state after shown
       → count next < 2 ^ 63 → 2 ^ 63 - count next < 2 ^ 63 - count now
   less_left now next state after shown answer below =
       less_by (count now) (count next) (length (joined (answer.skipped ++ Shown answer.octets ∷ [])))
       (counted now next (joined (answer.skipped ++ Shown answer.octets ∷ [])) answer.exactly) (takes_some now next state after shown answer) below
 
-  behind : (now next : R) (state : ReaderState) (text : List ℕ) (so_far : SoFar now state text) (more : List Piece) → ArePieces session state.last more
-      → ArePieces session None (so_far.pieces ++ more)
+  behind : (now next : R) (state : ReaderState) (text : List ℕ) (so_far : SoFar now state text) (more : List Piece) → ArePieces options.session state.last more
+      → ArePieces options.session None (so_far.pieces ++ more)
   behind now next state text so_far more are =
-      pieces_chain session None so_far.pieces more so_far.each (subst (λ (l : Option ℕ). ArePieces session l more) so_far.last are)
+      pieces_chain options.session None so_far.pieces more so_far.each (subst (λ (l : Option ℕ). ArePieces options.session l more) so_far.last are)
 
   last_behind : (now : R) (state : ReaderState) (text : List ℕ) (so_far : SoFar now state text) (more : List Piece)
       → last_of state.last more ≡ last_of None (so_far.pieces ++ more)
@@ -128,12 +128,15 @@ module _ {R : Type 0} (gives : R → R → List ℕ → Type 0) (has_ended : R �
       let many = ap length (joined_chain so_far.pieces more) ∙ length-append (joined so_far.pieces) (joined more) in
       let before = so_far.passed in omega arith
 
-  pub answered : (now next : R) (state after : ReaderState) (text line : List ℕ) (shown : ShownRecord) → SoFar now state text
-      → Answers gives has_ended session now next state after shown → IsRecordLine session shown line → SoFar next after (text ++ line)
+  -- a record more, its line, and what came before the next one
+  pub answered : (now next : R) (state after : ReaderState) (text line : List ℕ) (shown : ShownRecord) → (so_far : SoFar now state text)
+      → Answers gives has_ended options.session now next state after shown
+      → IsPlacedLine options.form options.session (came_in so_far.pieces) (placed_as None shown) line
+      → (so : SoFar next after (text ++ line)) × (came_in so.pieces ≡ before_behind shown (came_in so_far.pieces))
   answered now next state after text line shown so_far answer is =
       let more = answer.skipped ++ Shown answer.octets ∷ [] in
       let records = records_chain so_far.pieces more ∙ ap (λ (r : List ShownRecord). records_of so_far.pieces ++ r) (one_record answer.skipped answer.octets answer.only) in
-      record {
+      let so : SoFar next after (text ++ line) = record {
         pieces = so_far.pieces ++ more;
         each = behind now next state text so_far more answer.pieces;
         gave = given_behind now next state text so_far more answer.exactly;
@@ -143,15 +146,21 @@ module _ {R : Type 0} (gives : R → R → List ℕ → Type 0) (has_ended : R �
         skipped = ap (λ (s : ReaderState). s.skipped) answer.stands ∙ skipped_behind now state text so_far more;
         calm = ap (λ (s : ReaderState). s.fault) answer.stands ∙ so_far.calm;
         going = ap (λ (s : ReaderState). s.is_ended) answer.stands ∙ so_far.going;
-        are_lines = subst (λ (r : List ShownRecord). AreRecordLines session r (text ++ line)) (sym records)
-            (lines_more session (records_of so_far.pieces) text (shown_of answer.octets) line so_far.are_lines (subst (λ (r : ShownRecord). IsRecordLine session r line) (sym answer.shown) is));
-      }
+        are_lines = subst (λ (r : List ShownRecord). AreCaptureLines options r (text ++ line)) (sym records)
+            (one_more options.form options.session nothing_before (records_of so_far.pieces) text (shown_of answer.octets) line so_far.are_lines
+            (subst (λ (r : ShownRecord). IsPlacedLine options.form options.session (came_in so_far.pieces) (placed_as None r) line) (sym answer.shown) is));
+      } in (
+        so,
+        ap (λ (r : List ShownRecord). came_before r nothing_before) records
+            ∙ came_one_more (records_of so_far.pieces) (shown_of answer.octets) nothing_before
+            ∙ ap (λ (r : ShownRecord). before_behind r (came_in so_far.pieces)) answer.shown,
+      )
 
   -- skipped records add no line
   lines_behind : (now : R) (state : ReaderState) (text : List ℕ) (so_far : SoFar now state text) (more : List Piece) → records_of more ≡ []
-      → AreRecordLines session (records_of (so_far.pieces ++ more)) text
+      → AreCaptureLines options (records_of (so_far.pieces ++ more)) text
   lines_behind now state text so_far more only =
-      subst (λ (r : List ShownRecord). AreRecordLines session r text)
+      subst (λ (r : List ShownRecord). AreCaptureLines options r text)
       (sym (records_chain so_far.pieces more ∙ ap (λ (r : List ShownRecord). records_of so_far.pieces ++ r) only ∙ append-nil (records_of so_far.pieces))) so_far.are_lines
 
   -- how it ends
@@ -160,12 +169,12 @@ module _ {R : Type 0} (gives : R → R → List ℕ → Type 0) (has_ended : R �
     pub rest : List ℕ
     pub knows : Knows after pieces
     pub gave : gives source next (joined pieces ++ rest)
-    pub each : ArePieces session None pieces
-    pub ends : EndsAt has_ended session next pieces rest answer
-    pub are_lines : AreRecordLines session (records_of pieces) text
+    pub each : ArePieces options.session None pieces
+    pub ends : EndsAt has_ended options.session next pieces rest answer
+    pub are_lines : AreCaptureLines options (records_of pieces) text
 
   pub stops_at_end : {X : Type 0} (x : X) (now next : R) (state after : ReaderState) (text : List ℕ) → SoFar now state text
-      → Ends gives has_ended session now next state after → Stops next after text (Ok x)
+      → Ends gives has_ended options.session now next state after → Stops next after text (Ok x)
   stops_at_end x now next state after text so_far ends = record {
     pieces = so_far.pieces ++ ends.skipped;
     rest = [];
@@ -189,17 +198,17 @@ module _ {R : Type 0} (gives : R → R → List ℕ → Type 0) (has_ended : R �
 
   -- nor before the first call
   nothing_given : (now next : R) (state : ReaderState) (text : List ℕ) (so_far : SoFar now state text) (more : List Piece) (rest : List ℕ)
-      → ArePieces session state.last more → gives now next (joined more ++ rest) → next ≡ now → state ≡ fresh_reader → (so_far.pieces ++ more ≡ []) × (rest ≡ [])
+      → ArePieces options.session state.last more → gives now next (joined more ++ rest) → next ≡ now → state ≡ fresh_reader → (so_far.pieces ++ more ≡ []) × (rest ≡ [])
   nothing_given now next state text so_far more rest are given same fresh =
       let none = same_source now next (joined more) rest given same in
       let all = count_behind now state text so_far more in
       let start = ap (λ (s : ReaderState). s.passed) fresh in (
-        no_pieces_there session None (so_far.pieces ++ more) (behind now next state text so_far more are) (omega (arith, none, all, start)),
+        no_pieces_there options.session None (so_far.pieces ++ more) (behind now next state text so_far more are) (omega (arith, none, all, start)),
         no_length rest (omega (arith, none)),
       )
 
   pub stops_at_fault : {X : Type 0} (now next : R) (state after : ReaderState) (text : List ℕ) (fault : CaptureFault) → SoFar now state text
-      → Fails gives has_ended session now next state after fault → Stops {X = X} next after text (Err fault)
+      → Fails gives has_ended options.session now next state after fault → Stops {X = X} next after text (Err fault)
   stops_at_fault now next state after text fault so_far fails = record {
     pieces = so_far.pieces ++ fails.skipped;
     rest = fails.rest;
@@ -215,7 +224,7 @@ module _ {R : Type 0} (gives : R → R → List ℕ → Type 0) (has_ended : R �
     ends = (
       fails.offset ∙ count_behind now state text so_far fails.skipped,
       elim fails.why [
-        | inl refused ↦ inl (subst (λ (l : Option ℕ). IsRefused session l fails.rest (has_ended next) fault.kind) (last_behind now state text so_far fails.skipped) refused)
+        | inl refused ↦ inl (subst (λ (l : Option ℕ). IsRefused options.session l fails.rest (has_ended next) fault.kind) (last_behind now state text so_far fails.skipped) refused)
         | inr others ↦ elim others [
           | inl device ↦ inr (inl device)
           | inr memory ↦

@@ -12,3 +12,5 @@ pub mod ToldCapture
 pub mod OneVerdict
 pub mod Fronts
 pub mod ShownAnswers
+pub mod PlacedLines
+pub mod OneRecordLine

@@ -5,6 +5,7 @@ use Rattle.bgp_prefix.specs.Shown.{ShownRecord}
 use Rattle.bgp_prefix.specs.declared.session.Session.{Session}
 use Rattle.mrt.specs.declared.record.Record.{Record}
 use Rattle.mrt.specs.declared.fault.CaptureFault.{CaptureFault}
+use Rattle.bgp_tool.specs.declared.session_options.SessionOptions.{SessionOptions}
 use Rattle.bgp_tool.specs.CaptureDecoding.{DecodesCapture}
 use Rattle.mrt.specs.Reader.{ReaderState, Answers, Ends, Fails, IsAnswer, NextBy, IsNext}
 
@@ -73,10 +74,10 @@ module _ {S R : Type 0} (within : S → R) (gives : S → S → List ℕ → Typ
 -- What is decoded of a source that is lent is what is decoded of the source itself.
 module _ {S R W : Type 0} (within : S → R) (gives : S → S → List ℕ → Type 0) (gives' : R → R → List ℕ → Type 0) (has_ended : R → Bool)
     (takes : W → W → List ℕ → Type 0) (counts : R → ℕ) (failures : W → ℕ)
-    (through : (a b : S) (xs : List ℕ) → gives a b xs → gives' (within a) (within b) xs) (session : Session) where
+    (through : (a b : S) (xs : List ℕ) → gives a b xs → gives' (within a) (within b) xs) (options : SessionOptions) where
   of_same : (old new : S) (sink sink' : W) (reader' : ReaderState) (status : ℕ)
-      → DecodesCapture gives (λ a. has_ended (within a)) takes (λ a. counts (within a)) failures session old new sink sink' reader' status
-      → DecodesCapture gives' has_ended takes counts failures session (within old) (within new) sink sink' reader' status
+      → DecodesCapture gives (λ a. has_ended (within a)) takes (λ a. counts (within a)) failures options old new sink sink' reader' status
+      → DecodesCapture gives' has_ended takes counts failures options (within old) (within new) sink sink' reader' status
   of_same old new sink sink' reader' status is = record {
     pieces = is.pieces;
     rest = is.rest;
@@ -96,9 +97,9 @@ module _ {S R W : Type 0} (within : S → R) (gives : S → S → List ℕ → T
   }
 
   pub of_lent : (old new : S) (source source' : R) (sink sink' : W) (reader' : ReaderState) (status : ℕ) → within old ≡ source → source' ≡ within new
-      → DecodesCapture gives (λ a. has_ended (within a)) takes (λ a. counts (within a)) failures session old new sink sink' reader' status
-      → DecodesCapture gives' has_ended takes counts failures session source source' sink sink' reader' status
+      → DecodesCapture gives (λ a. has_ended (within a)) takes (λ a. counts (within a)) failures options old new sink sink' reader' status
+      → DecodesCapture gives' has_ended takes counts failures options source source' sink sink' reader' status
   of_lent old new source source' sink sink' reader' status first last is =
-      subst (λ (a : R). DecodesCapture gives' has_ended takes counts failures session a source' sink sink' reader' status) first
-      (subst (λ (b : R). DecodesCapture gives' has_ended takes counts failures session (within old) b sink sink' reader' status) (sym last)
+      subst (λ (a : R). DecodesCapture gives' has_ended takes counts failures options a source' sink sink' reader' status) first
+      (subst (λ (b : R). DecodesCapture gives' has_ended takes counts failures options (within old) b sink sink' reader' status) (sym last)
       (of_same old new sink sink' reader' status is))

@@ -1,6 +1,7 @@
 -- What decoding a capture reads, writes and answers.
-use Rattle.std.specs.Prelude.{◌≡◌, ◌⊎◌, ◌++◌, ◌+◌, ℕ, Bool, List, [], length, IsTrue, IsFalse}
-use Rattle.std.specs.Prelude.{Option, None, Result, Ok, Err, IsOk}
+use Rattle.std.specs.Prelude.{◌≡◌, ◌⊎◌, ◌++◌, ◌+◌, ℕ, Bool, List, [], length, map}
+use Rattle.std.specs.Prelude.{Option, None, Result, Ok, Err, IsOk, IsTrue, IsFalse}
+use Rattle.bgp_prefix.specs.Shown.{ShownRecord}
 use Rattle.bgp_prefix.specs.declared.session.Session.{Session}
 use Rattle.mrt.specs.Capture.{Piece, ArePieces, IsBegun, joined, last_of, records_of}
 use Rattle.mrt.specs.Reader.{ReaderState}
@@ -14,7 +15,15 @@ use Rattle.mrt.specs.declared.sink.Sink as sinks
 use Rattle.bgp_judge.specs.Judging.{fault_in}
 use Rattle.bgp_text.specs.declared.lines.Lines.{Lines}
 use Rattle.bgp_text.specs.Lines.{Writes}
-use Rattle.bgp_text.specs.Capture.{AreRecordLines, refused_line}
+use Rattle.bgp_text.specs.Capture.{refused_line}
+use Rattle.bgp_lines.specs.Form.{ArePlacedLines, nothing_before}
+use Rattle.bgp_lines.specs.Telling.{placed_as}
+use Rattle.bgp_tool.specs.declared.session_options.SessionOptions.{SessionOptions}
+
+-- The lines of all records of the session in a capture, one after another. It shows no packets.
+abbrev pub AreCaptureLines : SessionOptions → List ShownRecord → List ℕ → Type 0
+AreCaptureLines options records text =
+    ArePlacedLines options.form options.session nothing_before (map (placed_as None) records) text
 
 -- the exit status of a capture that is refused
 abbrev pub status_by : FaultKind → ℕ
@@ -53,17 +62,18 @@ module _ {R : Type 0} (has_ended : R → Bool) (session : Session) where
 -- What was given is pieces of a capture and a rest, and the lines of the pieces' records were put.
 -- They are read to where the octets end, or until the sink has failed.
 pub record PutsRecords {R W X : Type 0} {sink : sinks.Ghosts W} (gives : R → R → List ℕ → Type 0)
-    (has_ended : R → Bool) (session : Session) (source source' : R) (lines lines' : Lines W sink)
-    (reader' : ReaderState) (answer : Result X CaptureFault) : Type 0 where
+    (has_ended : R → Bool) (options : SessionOptions) (source source' : R)
+    (lines lines' : Lines W sink) (reader' : ReaderState) (answer : Result X CaptureFault)
+    : Type 0 where
   pub pieces : List Piece
   pub rest : List ℕ
   pub text : List ℕ
   pub knows : Knows reader' pieces
   pub gave : gives source source' (joined pieces ++ rest)
-  pub each : ArePieces session None pieces
-  pub ends : EndsAt has_ended session source' pieces rest answer
+  pub each : ArePieces options.session None pieces
+  pub ends : EndsAt has_ended options.session source' pieces rest answer
       ⊎ (IsOk answer × IsTrue lines'.outlet.has_failed)
-  pub are_lines : AreRecordLines session (records_of pieces) text
+  pub are_lines : AreCaptureLines options (records_of pieces) text
   pub wrote : Writes lines lines' text
 
 -- What was given is pieces of a capture and a rest, to where the octets end or until the sink has
@@ -72,20 +82,20 @@ pub record PutsRecords {R W X : Type 0} {sink : sinks.Ghosts W} (gives : R → R
 -- 5.
 pub record DecodesCapture {R W : Type 0} (gives : R → R → List ℕ → Type 0) (has_ended : R → Bool)
     (takes : W → W → List ℕ → Type 0) (source_failures : R → ℕ) (failures : W → ℕ)
-    (session : Session) (source source' : R) (sink sink' : W) (reader' : ReaderState) (status : ℕ)
-    : Type 0 where
+    (options : SessionOptions) (source source' : R) (sink sink' : W) (reader' : ReaderState)
+    (status : ℕ) : Type 0 where
   pub pieces : List Piece
   pub rest : List ℕ
   pub knows : Knows reader' pieces
   pub answer : Result (Unit {0}) CaptureFault
   pub gave : gives source source' (joined pieces ++ rest)
-  pub each : ArePieces session None pieces
-  pub ends : EndsAt has_ended session source' pieces rest answer
+  pub each : ArePieces options.session None pieces
+  pub ends : EndsAt has_ended options.session source' pieces rest answer
       ⊎ (IsOk answer × (failures sink' ≡ failures sink + 1))
   -- one failure of the source more, where that is the fault
   pub counted : source_failures source' ≡ source_failures source + failures_of answer
   pub lines : List ℕ
-  pub are_lines : AreRecordLines session (records_of pieces) lines
+  pub are_lines : AreCaptureLines options (records_of pieces) lines
   pub written : List ℕ
   pub left : List ℕ
   pub took : takes sink sink' written
@@ -95,11 +105,11 @@ pub record DecodesCapture {R W : Type 0} (gives : R → R → List ℕ → Type 
 
 -- and this is why the octets are refused, if they are
 abbrev pub DecodesWith : {R W : Type 0} → (R → R → List ℕ → Type 0) → (R → Bool)
-    → (W → W → List ℕ → Type 0) → (R → ℕ) → (W → ℕ) → Session → R → R → W → W → ReaderState → ℕ
-    → Option CaptureFault → Type 0
-DecodesWith gives has_ended takes source_failures failures session source source' sink sink'
+    → (W → W → List ℕ → Type 0) → (R → ℕ) → (W → ℕ) → SessionOptions → R → R → W → W → ReaderState
+    → ℕ → Option CaptureFault → Type 0
+DecodesWith gives has_ended takes source_failures failures options source source' sink sink'
     reader' status refused =
-    (decodes : DecodesCapture gives has_ended takes source_failures failures session source source'
+    (decodes : DecodesCapture gives has_ended takes source_failures failures options source source'
     sink sink' reader' status) × (refused ≡ fault_in decodes.answer)
 
 -- The last line was put, and the text handed over; the status is 5 where the sink failed.

@@ -4,7 +4,6 @@ use Rattle.std.specs.Prelude.{◌≡◌, ◌<◌, ◌+◌, ◌++◌, ◌==◌, �
 use Rattle.std.specs.Prelude.{Option, None, Some, is_some, option_map, if◌then◌else◌}
 use Rattle.std.specs.Prelude.{slice_get}
 use Rattle.std.specs.Borrow.{Bor}
-use Rattle.bgp_prefix.specs.declared.session.Session.{Session}
 use Rattle.mrt.specs.Capture.{joined}
 use Rattle.mrt.specs.declared.fault.CaptureFault.{CaptureFault}
 use Rattle.mrt.specs.declared.fault.FaultKind.{FaultKind}
@@ -23,6 +22,7 @@ use Rattle.bgp_tool.specs.declared.note.Note.TheVariants.{NoCapture, NothingDone
 use Rattle.bgp_tool.specs.declared.note.Unmet.{Unmet}
 use Rattle.bgp_tool.specs.declared.opened.Outcome.{Outcome}
 use Rattle.bgp_tool.specs.declared.seen.Seen.{Seen}
+use Rattle.bgp_tool.specs.declared.session_options.SessionOptions.{SessionOptions}
 use Rattle.bgp_tool.specs.CaptureDecoding.{DecodesCapture}
 use Rattle.bgp_tool.specs.Front.{kept, no_capture}
 use Rattle.bgp_tool.specs.Opened.{TellsWriter}
@@ -104,12 +104,12 @@ pub record TellsCapture {R W : Type 0} (command : CaptureCommand) (file : Bor (L
 -- From one state of a writer to another a reader's octets were decoded, from a source that had
 -- given nothing, and it is told how that ended.
 pub record DecodesOpened {R W : Type 0} (remaining : R → Option (List ℕ))
-    (contents : W → Option (List ℕ)) (session : Session) (file : Bor (List ℕ)) (reader : R)
+    (contents : W → Option (List ℕ)) (options : SessionOptions) (file : Bor (List ℕ)) (reader : R)
     (old new : WriterState W) (outcome : Outcome) : Type 0 where
   pub source : ReaderState R
   pub found : records.ReaderState
   pub decoded : DecodesCapture (Gives remaining) (λ state. state.has_ended) (Takes contents)
-      (λ state. state.failures) (λ state. state.failures) session (fresh_reader reader) source
+      (λ state. state.failures) (λ state. state.failures) options (fresh_reader reader) source
       old new found outcome.status
   pub told : TellsCapture Decode file source (joined decoded.pieces ++ decoded.rest) found
       (fault_in decoded.answer) None old new outcome.status outcome.note

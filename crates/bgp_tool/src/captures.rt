@@ -10,10 +10,11 @@ ghost use Rattle.bgp_tool.specs.CaptureDecoding.{status_by, PutsRecords, Finishe
 ghost use Rattle.bgp_tool.specs.CaptureDecoding.{DecodesCapture, DecodesWith};
 
 use crate::ready::Ready;
+use crate::session_options::SessionOptions;
 use crate::shown::{Lent, Shown};
 use crate::status::Status;
-use bgp_prefix::Session;
-use bgp_text::{Lines, put_record, put_refused};
+use bgp_lines::Teller;
+use bgp_text::{Lines, put_refused};
 use mrt::{CaptureFault, FaultKind, Reader, Sink, Source};
 use std::alloc::Allocator;
 
@@ -21,19 +22,22 @@ use std::alloc::Allocator;
 /// It reads no further once the sink has failed.
 fn put_records<S: Source + Ready, W: Sink, A: Allocator + Copy>(
     reader: &mut Reader<A>,
-    session: &Session,
+    options: &SessionOptions,
     printed: &mut Shown<'_, S, W>,
 ) -> Result<(), CaptureFault>
     requires fresh { reader.old ≡ fresh_reader }
     requires failures { S.failures printed.old.source < u64.MAX }
-    ensures puts { PutsRecords S.gives S.has_ended session.now printed.old.source
+    ensures puts { PutsRecords S.gives S.has_ended options.now printed.old.source
         printed.new.source printed.old.lines printed.new.lines reader.new result }
     ensures failures { S.failures printed.new.source
         ≡ S.failures printed.old.source + failures_of result }
 {
+    let mut teller = Teller::new(options.form);
     loop {
-        match reader.next_record(printed, session) {
-            Ok(Some(shown)) => put_record(&mut printed.lines, session, &shown),
+        match reader.next_record(printed, &options.session) {
+            Ok(Some(shown)) => {
+                teller.put_record(&mut printed.lines, &options.session, None, &shown);
+            }
             Ok(None) => return Ok(()),
             Err(fault) => return Err(fault),
         }
@@ -87,8 +91,13 @@ pub fn hand_over<W: Sink>(lines: &mut Lines<'_, W>, status: Status) -> Status
     }
 }
 
-/// Decodes a capture of one session: writes one line a record of the session
-/// (bgp_text's `specs/Capture.antt`), and a last one where the capture is refused.
+/// Decodes a capture of one session: writes one line a record of the session, and a last one where
+/// the capture is refused.
+///
+/// In the plain form the lines are those of bgp_text's `specs/Capture.antt`. In words (bgp_lines'
+/// `specs/Form.antt`) an UPDATE is read by the last OPEN each way before it: AS numbers have two
+/// octets if that is asked for, or one of both offers none of four (RFC 6793, 4.1), and prefixes
+/// have path identifiers where both offer them (RFC 7911, 5).
 ///
 /// It reads with a reader that has read nothing, which tells afterwards whether it found a record
 /// of the session; it takes no memory but the reader's. Before a read that may wait, the lines of
@@ -103,14 +112,14 @@ pub fn hand_over<W: Sink>(lines: &mut Lines<'_, W>, status: Status) -> Status
 ///   the text is written.
 pub fn decode_capture<R: Source + Ready, W: Sink, A: Allocator + Copy>(
     reader: &mut Reader<A>,
-    session: &Session,
+    options: &SessionOptions,
     source: &mut R,
     sink: &mut W,
 ) -> u8
     requires fresh { reader.old ≡ fresh_reader }
     requires source { R.failures source.old < 2 ^ 63 }
     requires sink { W.failures sink.old < 2 ^ 63 }
-    ensures { DecodesCapture R.gives R.has_ended W.takes R.failures W.failures session.now
+    ensures { DecodesCapture R.gives R.has_ended W.takes R.failures W.failures options.now
         source.old source.new sink.old sink.new reader.new result }
 {
     let lent = Lent::new(source);
@@ -118,7 +127,7 @@ pub fn decode_capture<R: Source + Ready, W: Sink, A: Allocator + Copy>(
         source,
         status,
         refused: _,
-    } = decode_with(reader, session, lent, sink);
+    } = decode_with(reader, options, lent, sink);
     // No effect: it ends the loan of the source.
     source.into_source();
     status
@@ -137,19 +146,19 @@ pub(crate) struct Decoded<S> {
 /// Decodes a capture of one session, and says besides the status why the capture is refused.
 pub(crate) fn decode_with<S: Source + Ready, W: Sink, A: Allocator + Copy>(
     reader: &mut Reader<A>,
-    session: &Session,
+    options: &SessionOptions,
     source: S,
     sink: &mut W,
 ) -> Decoded<S>
     requires fresh { reader.old ≡ fresh_reader }
     requires source { S.failures source < 2 ^ 63 }
     requires sink { W.failures sink.old < 2 ^ 63 }
-    ensures { DecodesWith S.gives S.has_ended W.takes S.failures W.failures session.now
+    ensures { DecodesWith S.gives S.has_ended W.takes S.failures W.failures options.now
         source result.source sink.old sink.new reader.new result.status result.refused }
 {
     let lines = Lines::new(sink);
     let mut printed = Shown { source, lines };
-    let read = put_records(reader, session, &mut printed);
+    let read = put_records(reader, options, &mut printed);
     let status = finish(&mut printed.lines, read).code();
     let Shown { source, lines } = printed;
     // No effect: it ends the loan of the sink.

@@ -1,11 +1,15 @@
-//! A frame says one thing, and a stream has one text and one exit status in each form; what the text
-//! is without words.
+//! A frame says one thing, and a stream has one text and one exit status in each form, as the records
+//! of a session have one text; what the text is without words.
 
-ghost use Rattle.std.specs.Prelude.{◌≡◌, ℕ, List, []};
+ghost use Rattle.std.specs.Prelude.{◌≡◌, ◌↔◌, ℕ, List, [], map};
+ghost use Rattle.bgp_prefix.specs.declared.session.Session.{Session};
 ghost use Rattle.bgp_wire.specs.declared.header.Limit.{Limit};
 ghost use Rattle.bgp_wire.specs.Framing.{IsFrame};
 ghost use Rattle.bgp_open.specs.declared.route_form.RouteForm.{RouteForm};
+ghost use Rattle.bgp_text.specs.Capture.{AreRecordLines};
 ghost use Rattle.bgp_text.specs.Message.{Message, Say, Says};
+ghost use Rattle.bgp_lines.specs.Form.{ArePlacedLines, Before, PlacedRecord};
+ghost use Rattle.bgp_lines.specs.declared.form.LineForm.{LineForm};
 ghost use Rattle.bgp_lines.specs.declared.form.LineForm.TheVariants.{Plain};
 ghost use Rattle.bgp_tool.specs.Decoding.{AreFrameLines, IsDecoded, lines_of};
 ghost use Rattle.bgp_tool.specs.declared.stream_options.StreamOptions.{StreamOptions};
@@ -25,4 +29,16 @@ pub fn each_stream_has_one_text()
         → (text ≡ other) × (status ≡ code) }
     ensures plain { (frames : List (List ℕ)) (text : List ℕ) → AreFrameLines Plain [] frames text
         → (messages : List Message) × Say frames messages × (text ≡ lines_of messages) }
+{}
+
+/// Laws: the records of a session have one text in each form, whatever came before them; and in the
+/// plain form the lines are those of the records, each by itself, whatever packets show them.
+pub fn each_session_has_one_text()
+    ensures one { (form : LineForm) (session : Session) (before : Before)
+        (records : List PlacedRecord) (text other : List ℕ)
+        → ArePlacedLines form session before records text
+        → ArePlacedLines form session before records other → text ≡ other }
+    ensures plain { (session : Session) (before : Before) (records : List PlacedRecord)
+        (text : List ℕ) → ArePlacedLines Plain session before records text
+        ↔ AreRecordLines session (map (λ placed. placed.shown) records) text }
 {}

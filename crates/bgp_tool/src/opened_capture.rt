@@ -17,7 +17,7 @@ use crate::note::{CaptureCommand, Note, Unmet};
 use crate::opened::{Outcome, unopened, unwritten};
 use crate::ready::Ready;
 use crate::seen::Seen;
-use bgp_prefix::Session;
+use crate::session_options::SessionOptions;
 use mrt::{CaptureFault, Endpoints, FaultKind, FromRead, FromWrite, MOST_OTHERS, Reader, Sink};
 use std::alloc::Allocator;
 use std::io;
@@ -32,20 +32,20 @@ use std::io::{Read, Write};
 /// The reader is asked for few octets at a time: put a buffer before a file.
 pub fn decode_opened_capture<'a, R: Read + Ready + Drop, W: Write, A: Allocator + Copy>(
     alloc: A,
-    session: &Session,
+    options: &SessionOptions,
     file: &'a str,
     opened: io::Result<R>,
     sink: &mut FromWrite<W>,
 ) -> Outcome<'a>
     requires { (writer_state sink.old).failures < 2 ^ 63 }
-    ensures decoded { IfOk opened (λ reader. DecodesOpened R.remaining W.contents session.now
+    ensures decoded { IfOk opened (λ reader. DecodesOpened R.remaining W.contents options.now
         file.entry reader (writer_state sink.old) (writer_state sink.new) result) }
     ensures unopened { IfErr opened (λ error. IsUnopened file.entry (error_kind error) result
         × (writer_state sink.new ≡ writer_state sink.old)) }
     ensures statuses { result.status ≤ 5 }
 {
     match opened {
-        Ok(reader) => decode_reader(alloc, session, file, reader, sink),
+        Ok(reader) => decode_reader(alloc, options, file, reader, sink),
         Err(error) => unopened(file, error.kind()),
     }
 }
@@ -53,20 +53,20 @@ pub fn decode_opened_capture<'a, R: Read + Ready + Drop, W: Write, A: Allocator 
 /// Decodes what a reader gives.
 fn decode_reader<'a, R: Read + Ready + Drop, W: Write, A: Allocator + Copy>(
     alloc: A,
-    session: &Session,
+    options: &SessionOptions,
     file: &'a str,
     reader: R,
     sink: &mut FromWrite<W>,
 ) -> Outcome<'a>
     requires { (writer_state sink.old).failures < 2 ^ 63 }
-    ensures decoded { DecodesOpened R.remaining W.contents session.now file.entry reader
+    ensures decoded { DecodesOpened R.remaining W.contents options.now file.entry reader
         (writer_state sink.old) (writer_state sink.new) result }
     ensures statuses { result.status ≤ 5 }
 {
     let source = WithFront::new(FromRead::new(reader));
     let mut records = Reader::new(alloc);
     let failures = sink.failures();
-    let decoded = decode_with(&mut records, session, source, sink);
+    let decoded = decode_with(&mut records, options, source, sink);
     let Decoded {
         source,
         status,

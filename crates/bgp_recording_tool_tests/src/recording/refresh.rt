@@ -17,11 +17,13 @@ static RUNS: [Run; 2] = [
         count: 23,
         packet: 4,
         second: 100,
+        micro: Some(4),
     },
     Run {
         count: 19,
         packet: 5,
         second: 101,
+        micro: Some(5),
     },
 ];
 
@@ -38,6 +40,7 @@ fn connection_of(octets: &[u8]) -> Connection<'_> {
         opened_by: Side::Peer,
         packet: 1,
         second: 100,
+        micro: Some(1),
         received: stream,
         sent: stream,
         end: None,

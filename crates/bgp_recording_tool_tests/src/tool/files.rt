@@ -2,8 +2,9 @@
 
 use super::*;
 use crate::two_connections::front;
+use bgp_lines::LineForm;
 use bgp_recording_tool::{decode_file, judge_file};
-use bgp_tool::{Note, Ready};
+use bgp_tool::{Note, Ready, SessionOptions};
 use mrt::FromWrite;
 use std::io::{self, ErrorKind, Read};
 
@@ -110,7 +111,11 @@ fn is_decoded(alloc: Global) -> bool {
         error: None,
     };
     let mut sink = FromWrite::new(Vec::new(alloc));
-    let outcome = decode_file(alloc, &SESSION, &OPTIONS, "a.mrt", Ok(given), &mut sink);
+    let options = SessionOptions {
+        session: SESSION,
+        form: LineForm::Plain,
+    };
+    let outcome = decode_file(alloc, &options, &OPTIONS, "a.mrt", Ok(given), &mut sink);
     outcome.status == 0 && sink.into_inner().as_slice() == b"@100 change 1 3\n".as_slice()
 }
 

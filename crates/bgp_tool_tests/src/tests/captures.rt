@@ -2,15 +2,20 @@
 //! program `real_captures`.
 
 use super::*;
+use bgp_lines::LineForm;
 use bgp_prefix::{Address, RouteRefresh, Session};
+use bgp_tool::SessionOptions;
 use mrt::Reader;
 
-/// A session between 192.0.2.2 and 192.0.2.1.
-const SESSION: Session = Session {
-    peer: Address::V4(0xc000_0202),
-    local: Address::V4(0xc000_0201),
-    refresh: RouteRefresh::NotOffered,
-    extended: false,
+/// The lines in numbers of a session between 192.0.2.2 and 192.0.2.1.
+const OPTIONS: SessionOptions = SessionOptions {
+    session: Session {
+        peer: Address::V4(0xc000_0202),
+        local: Address::V4(0xc000_0201),
+        refresh: RouteRefresh::NotOffered,
+        extended: false,
+    },
+    form: LineForm::Plain,
 };
 
 /// A change from Idle to Connect at second 100.
@@ -37,7 +42,7 @@ fn decoded<A: Allocator + Copy>(
     let mut source = MemSource::new(capture).upset_at(read, SourceUpset::Fail);
     let mut sink = MemSink::new(alloc).upset_at(write, SinkUpset::Fail);
     let mut reader = Reader::new(memory);
-    let status = decode_capture(&mut reader, &SESSION, &mut source, &mut sink);
+    let status = decode_capture(&mut reader, &OPTIONS, &mut source, &mut sink);
     (
         (sink.into_octets(), status),
         (reader.has_answered(), source.given()),

@@ -1,9 +1,7 @@
 use Rattle.std.proofs.Common.{◌∙◌, List, subst, sym, length, reverse, inl, inr}
 use Rattle.std.specs.List.{AllByRecursion}
 use Rattle.bgp_recording.specs.declared.entry.Entry.{Entry}
-use Rattle.bgp_text.specs.Capture.{AreRecordLines}
-use Rattle.bgp_recording.specs.Captured.{records_of}
-use Rattle.bgp_recording_tool.specs.Decoding.{HasLine}
+use Rattle.bgp_recording_tool.specs.Decoding.{AreEntryLines, HasLine}
 use Rattle.bgp_recording_tool.specs.Remarks.{notes_of}
 use Rattle.bgp_recording_tool.proofs.EntryLines.{have_lines}
 use Rattle.bgp_recording_tool.proofs.Judgings.{is_made}
@@ -35,7 +33,7 @@ pub write_entries-requires-clause-lines : goal.write_entries-requires-clause-lin
 write_entries-requires-clause-lines g c =
     let h = c.requires.holds in
     let tells = rw c.in-Ok.is at (c.records_of.ensures.told h.packets h.segments h.taken h.holds) in
-    subst (λ (es : List Entry). AllByRecursion (HasLine c.args.import.now.selection.session) es) (sym c.as_slice.ensures.value)
+    subst (λ (es : List Entry). AllByRecursion (HasLine c.args.import.now.selection.session) es) (sym c.as_slice-entries.ensures.value)
     (have_lines c.args.import.now.selection.session c.args.import.now.within tells.connection c.in-Ok.made.entries.items c.in-Ok.made.received c.in-Ok.made.sent tells.recorded.told)
 
 pub returns : goal.returns
@@ -49,7 +47,7 @@ returns g c = λ packets segments taken holds.
         text = text;
         chosen = tells.answered;
         made = is_made c.args.import.now c.args.import.now.connection packets segments c.in-Ok.made tells;
-        are_lines = subst (λ (es : List Entry). AreRecordLines c.args.import.now.selection.session (records_of es) text) c.as_slice.ensures.value are_lines;
+        are_lines = subst (λ (es : List Entry). AreEntryLines c.args.form c.args.import.now.selection.session es text) c.as_slice-entries.ensures.value are_lines;
         written = written;
         remarked = c.in-Ok-made_remarks.ensures;
       }),

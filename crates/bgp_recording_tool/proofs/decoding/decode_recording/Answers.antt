@@ -19,7 +19,7 @@ returns-in-Ok g c =
     let failures = rw c.in-Ok.is at c.gather.ensures.failures in
     inr (
       subst (λ (w : Import). IsMisfit w None) meant c.in_default.ensures,
-      inl (subst (λ (w : Import). DecodesRead g.R.Source.gives g.R.Source.has_ended g.W.Sink.takes g.R.Source.failures g.W.Sink.failures w c.args.source.now
+      inl (subst (λ (w : Import). DecodesRead g.R.Source.gives g.R.Source.has_ended g.W.Sink.takes g.R.Source.failures g.W.Sink.failures c.args.options.now.form w c.args.source.now
           c.gather.new.source c.args.sink.now c.decode_gathered.new.sink c.decode_gathered.result.status c.decode_gathered.result.cut_short c.decode_gathered.result.remarks.items) meant record {
             octets = i.octets;
             packets = i.packets;
@@ -37,7 +37,7 @@ returns-in-Err g c =
     let meant = c.import_of-import.ensures in
     inr (
       subst (λ (w : Import). IsMisfit w None) meant c.in_default.ensures,
-      inr (subst (λ (w : Import). TellsRefusal g.R.Source.gives g.R.Source.has_ended g.W.Sink.takes g.R.Source.failures g.W.Sink.failures w c.args.source.now
+      inr (subst (λ (w : Import). TellsRefusal g.R.Source.gives g.R.Source.has_ended g.W.Sink.takes g.R.Source.failures g.W.Sink.failures c.args.options.now.form w c.args.source.now
           c.gather.new.source c.args.sink.now c.refused.new.sink c.refused.result.status c.refused.result.cut_short c.refused.result.remarks.items) meant record {
             refusal = c.in-Err.refusal;
             stopped = c.in-Err.ensures.gathers;

@@ -1,13 +1,21 @@
-use Rattle.std.proofs.Common.{◌++◌, [], None}
+use Rattle.std.proofs.Common.{◌∙◌, ◌++◌, [], None}
 use Rattle.bgp_text.proofs.Pieces.{Joins, nothing_yet, and_then}
+use Rattle.bgp_lines.specs.Form.{nothing_before}
 use Rattle.bgp_import.proofs.Entries.{here_and_behind, all_behind}
 use Rattle.bgp_recording_tool.specs.Decoding.{HasLine}
-use Rattle.bgp_recording_tool.proofs.EntryLines.{line_same, one_line_more, no_line_left}
+use Rattle.bgp_recording_tool.proofs.EntryLines.{line_in, one_line_more, no_line_left}
 use Rattle.bgp_recording_tool.proofs.decoding.put_entries.Goals as goal
 
 pub loop-entry-init : goal.loop-entry-init
 loop-entry-init g c = record {
-  so_far = ([], nothing_yet g.W.Sink g.met.W.Sink.nothing c.args.lines.now.outlet c.args.lines.now.held.items, λ rest are. are);
+  so_far = (
+    [],
+    nothing_before,
+    nothing_yet g.W.Sink g.met.W.Sink.nothing c.args.lines.now.outlet c.args.lines.now.held.items,
+    c.new-teller.ensures.knows,
+    λ rest are. are,
+  );
+  same_form = c.new-teller.ensures.form;
   left = c.requires;
 }
 
@@ -18,17 +26,25 @@ put_record-requires g c =
 pub loop-entry-preserved : goal.loop-entry-preserved
 loop-entry-preserved g c =
     let law : Joins g.W.Sink = record { joined = g.met.W.Sink.joined } in
-    let (text, wrote, followed) = c.loop-entry.invariant.so_far in
-    let (line, is_line, put) = c.put_record.ensures in record {
+    let form = c.args.form in
+    let session = c.args.session.now in
+    let (text, before, wrote, knows, followed) = c.loop-entry.invariant.so_far in
+    let (line, told, put) = c.put_record.ensures.line before knows in
+    let is_line = line_in form c.loop-entry.teller.form session before _ line c.loop-entry.invariant.same_form told in
+    record {
       so_far = (
         text ++ line,
+        _,
         and_then law wrote put,
-        one_line_more c.args.session.now c.args.entries.now c.loop-entry.entry-index _ c.loop-entry-test.true text line (line_same c.args.session.now _ line is_line) followed,
+        c.put_record.ensures.knows before knows,
+        one_line_more form session c.args.entries.now before c.loop-entry.entry-index _ c.loop-entry-test.true text line
+            is_line followed,
       );
+      same_form = c.put_record.ensures.form ∙ c.loop-entry.invariant.same_form;
       left = all_behind c.args.entries.now c.loop-entry.entry-index c.loop-entry-test.true (HasLine c.args.session.now) c.loop-entry.invariant.left;
     }
 
 pub returns : goal.returns
 returns g c =
-    let (text, wrote, followed) = c.loop-entry.invariant.so_far in
-    (text, no_line_left c.args.session.now c.args.entries.now c.loop-entry.entry-index c.loop-entry-test.false text followed, wrote)
+    let (text, before, wrote, knows, followed) = c.loop-entry.invariant.so_far in
+    (text, no_line_left c.args.form c.args.session.now c.args.entries.now before c.loop-entry.entry-index c.loop-entry-test.false text followed, wrote)

@@ -18,7 +18,7 @@ returns-then-not-is_recording-clause-decoded g c =
         sym c.if-not-is_recording.ensures,
         (
           subst
-              (λ (o : Outcome). DecodesOpened (peeked_remaining g.R.Read.remaining) g.W.Write.contents c.args.session.now c.args.file c.new-peeked.result
+              (λ (o : Outcome). DecodesOpened (peeked_remaining g.R.Read.remaining) g.W.Write.contents c.args.options.now c.args.file c.new-peeked.result
               (writer_state c.args.sink.now) (writer_state c.decode_opened_capture-outcome.new.sink) o)
               (same_outcome c.decode_opened_capture-outcome.result outcome.result.status outcome.result.skipped outcome.result.note
               outcome.ensures.status outcome.ensures.skipped outcome.ensures.note)

@@ -9,5 +9,5 @@ returns g c =
     let decoded = c.decode_with-source.ensures.0 in
     let same = decoded.gave.same_source ∙ c.new-lent.ensures.same in
     of_lent (λ (s : Lent g.row.R.Denot). s.source.now) (λ a b. GivesLent g.R.Source.gives a.source b.source) g.R.Source.gives g.R.Source.has_ended g.W.Sink.takes
-    g.R.Source.failures g.W.Sink.failures (λ a b xs given. given.gave) c.args.session.now c.new-lent.result c.decode_with-source.result.source _ _ _ _ _ _
+    g.R.Source.failures g.W.Sink.failures (λ a b xs given. given.gave) c.args.options.now c.new-lent.result c.decode_with-source.result.source _ _ _ _ _ _
     c.new-lent.ensures.now (search rules) decoded

@@ -10,6 +10,6 @@ returns g c =
     let fresh : IsFresh c.new-lines.result = record { empty = c.new-lines.ensures.empty; calm = c.new-lines.ensures.fresh } in
     let ends = c.finish.ensures in
     let same = ends.wrote.same_sink ∙ c.put_records-read.ensures.puts.wrote.same_sink ∙ c.new-lines.ensures.same in
-    rw c.code-status.ensures (decodes_with law g.S.Source.gives g.S.Source.has_ended g.S.Source.failures c.args.session.now c.args.source c.put_records-read.new.printed.source
+    rw c.code-status.ensures (decodes_with law g.S.Source.gives g.S.Source.has_ended g.S.Source.failures c.args.options.now c.args.source c.put_records-read.new.printed.source
     c.new-lines.result c.put_records-read.new.printed.lines c.finish.new.lines c.args.sink.now _ fresh c.put_records-read.new.reader c.new-lines.ensures.now (search rules)
     c.put_records-read.result _ _ c.put_records-read.ensures.puts ends c.put_records-read.ensures.failures c.refused_by.ensures)

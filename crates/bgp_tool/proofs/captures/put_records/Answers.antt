@@ -1,8 +1,11 @@
-use Rattle.std.proofs.Common.{◌++◌, ℕ, List, [], refl, sym, ap, subst, append-nil, inl, inr, arith, rules}
+use Rattle.std.proofs.Common.{◌∙◌, ◌++◌, ℕ, List, [], refl, sym, ap, subst, append-nil, inl, inr, arith, rules, None}
 use Rattle.mrt.specs.Capture.{joined}
-use Rattle.mrt.specs.Reader.{ReaderState}
+use Rattle.mrt.specs.Reader.{ReaderState, shown_of}
 use Rattle.bgp_text.proofs.Pieces.{Joins, nothing_yet, and_then, and_nothing}
-use Rattle.bgp_tool.proofs.CaptureLines.{nothing_read, allowed_answer, answered, less_left, stops_at_end, stops_at_fault}
+use Rattle.bgp_lines.specs.Form.{Before, IsPlacedLine}
+use Rattle.bgp_lines.specs.Telling.{Knows, placed_as}
+use Rattle.bgp_lines.specs.declared.form.LineForm.{LineForm}
+use Rattle.bgp_tool.proofs.CaptureLines.{came_in, nothing_read, allowed_answer, answered, less_left, stops_at_end, stops_at_fault}
 use Rattle.bgp_tool.specs.declared.shown.Shown.{Shown}
 use Rattle.bgp_tool.specs.Shown.{GivesShown}
 use Rattle.bgp_tool.proofs.ShownAnswers.{printed_answer}
@@ -10,50 +13,59 @@ use Rattle.bgp_tool.proofs.captures.put_records.Goals as goal
 
 pub loop-shown-init : goal.loop-shown-init
 loop-shown-init g c =
-    let passed = ap (λ (s : ReaderState). s.passed) c.requires.fresh in record {
+    let passed = ap (λ (s : ReaderState). s.passed) c.requires.fresh in
+    let (so, nothing) = nothing_read g.S.Source.gives g.S.Source.has_ended g.met.S.Source.joined g.S.Source.given_count g.met.S.Source.counted c.args.options.now
+    c.args.printed.now.source c.args.reader.now c.requires.fresh (g.met.S.Source.nothing c.args.printed.now.source) in record {
       so_far = (
         [],
-        nothing_read g.S.Source.gives g.S.Source.has_ended g.met.S.Source.joined g.S.Source.given_count g.met.S.Source.counted c.args.session.now c.args.printed.now.source c.args.reader.now c.requires.fresh
-            (g.met.S.Source.nothing c.args.printed.now.source),
+        so,
         nothing_yet g.W.Sink g.met.W.Sink.nothing c.args.printed.now.lines.outlet c.args.printed.now.lines.held.items,
+        subst (λ (b : Before). Knows c.new-teller.result b) (sym nothing) c.new-teller.ensures.knows,
       );
+      form = c.new-teller.ensures.form;
       one_source = omega arith;
       calm = refl;
     }
 
 pub put_record-requires : goal.put_record-requires
 put_record-requires g c =
-    let (text, so, wrote) = c.loop-shown.invariant.so_far in
+    let (text, so, wrote, knows) = c.loop-shown.invariant.so_far in
     let next = printed_answer (λ (s : Shown g.row.S.Denot g.row.W.Denot g.W.Sink). s.source) (λ a b. GivesShown g.S.Source.gives a.source b.source a.lines b.lines)
-    g.S.Source.gives g.S.Source.has_ended (λ a b xs given. given.gave) c.args.session.now c.loop-shown.printed c.next_record.new.source
+    g.S.Source.gives g.S.Source.has_ended (λ a b xs given. given.gave) c.args.options.now.session c.loop-shown.printed c.next_record.new.source
     c.loop-shown.reader c.next_record.follows.lender-at-none c.next_record.result so.calm so.going c.next_record.follows.holds-at-none.0 in
     let is = rw (c.in-Ok-Some.is, c.in-Ok-Some.field-0-is) at next.0 in
-    allowed_answer g.S.Source.gives g.S.Source.has_ended g.met.S.Source.joined g.S.Source.given_count g.met.S.Source.counted c.args.session.now c.args.printed.now.source _ _ _ _ _ is
+    allowed_answer g.S.Source.gives g.S.Source.has_ended g.met.S.Source.joined g.S.Source.given_count g.met.S.Source.counted c.args.options.now c.args.printed.now.source _ _ _ _ _ is
 
 pub loop-shown-smaller : goal.loop-shown-smaller
 loop-shown-smaller g c =
-    let (text, so, wrote) = c.loop-shown.invariant.so_far in
+    let (text, so, wrote, knows) = c.loop-shown.invariant.so_far in
     let next = printed_answer (λ (s : Shown g.row.S.Denot g.row.W.Denot g.W.Sink). s.source) (λ a b. GivesShown g.S.Source.gives a.source b.source a.lines b.lines)
-    g.S.Source.gives g.S.Source.has_ended (λ a b xs given. given.gave) c.args.session.now c.loop-shown.printed c.next_record.new.source
+    g.S.Source.gives g.S.Source.has_ended (λ a b xs given. given.gave) c.args.options.now.session c.loop-shown.printed c.next_record.new.source
     c.loop-shown.reader c.next_record.follows.lender-at-none c.next_record.result so.calm so.going c.next_record.follows.holds-at-none.0 in
     let is = rw (c.in-Ok-Some.is, c.in-Ok-Some.field-0-is) at next.0 in
-    less_left g.S.Source.gives g.S.Source.has_ended g.met.S.Source.joined g.S.Source.given_count g.met.S.Source.counted c.args.session.now c.args.printed.now.source _ _ _ _ _ is (g.met.S.Source.below c.next_record.new.source.source)
+    less_left g.S.Source.gives g.S.Source.has_ended g.met.S.Source.joined g.S.Source.given_count g.met.S.Source.counted c.args.options.now c.args.printed.now.source _ _ _ _ _ is (g.met.S.Source.below c.next_record.new.source.source)
 
 pub loop-shown-preserved : goal.loop-shown-preserved
 loop-shown-preserved g c =
     let law : Joins g.W.Sink = record { joined = g.met.W.Sink.joined } in
-    let (text, so, wrote) = c.loop-shown.invariant.so_far in
-    let (line, is_line, put) = c.put_record.ensures in
+    let (text, so, wrote, knows) = c.loop-shown.invariant.so_far in
+    let (line, is, put) = c.put_record.ensures.line (came_in so.pieces) knows in
+    let is_line = subst (λ (f : LineForm). IsPlacedLine f c.args.options.now.session (came_in so.pieces) (placed_as None (shown_of c.in-Ok-Some.shown)) line)
+    c.loop-shown.invariant.form is in
     let next = printed_answer (λ (s : Shown g.row.S.Denot g.row.W.Denot g.W.Sink). s.source) (λ a b. GivesShown g.S.Source.gives a.source b.source a.lines b.lines)
-    g.S.Source.gives g.S.Source.has_ended (λ a b xs given. given.gave) c.args.session.now c.loop-shown.printed c.next_record.new.source
+    g.S.Source.gives g.S.Source.has_ended (λ a b xs given. given.gave) c.args.options.now.session c.loop-shown.printed c.next_record.new.source
     c.loop-shown.reader c.next_record.follows.lender-at-none c.next_record.result so.calm so.going c.next_record.follows.holds-at-none.0 in
     let is = rw (c.in-Ok-Some.is, c.in-Ok-Some.field-0-is) at next.0 in
-    let failures = rw (c.in-Ok-Some.is) at c.next_record.ensures.failures in record {
+    let failures = rw (c.in-Ok-Some.is) at c.next_record.ensures.failures in
+    let (done, behind) = answered g.S.Source.gives g.S.Source.has_ended g.met.S.Source.joined g.S.Source.given_count g.met.S.Source.counted c.args.options.now
+    c.args.printed.now.source _ _ _ _ text line _ so is is_line in record {
       so_far = (
         text ++ line,
-        answered g.S.Source.gives g.S.Source.has_ended g.met.S.Source.joined g.S.Source.given_count g.met.S.Source.counted c.args.session.now c.args.printed.now.source _ _ _ _ text line _ so is is_line,
+        done,
         and_then law (and_nothing law wrote next.2.kept) put,
+        subst (λ (b : Before). Knows c.put_record.new.self b) (sym behind) (c.put_record.ensures.knows (came_in so.pieces) knows),
       );
+      form = c.put_record.ensures.form ∙ c.loop-shown.invariant.form;
       one_source = c.next_record.follows.holds-at-none.1;
       calm = omega (arith, c.loop-shown.invariant.calm);
     }
@@ -61,12 +73,12 @@ loop-shown-preserved g c =
 pub returns-in-Ok-None-clause-puts : goal.returns-in-Ok-None-clause-puts
 returns-in-Ok-None-clause-puts g c =
     let law : Joins g.W.Sink = record { joined = g.met.W.Sink.joined } in
-    let (text, so, wrote) = c.loop-shown.invariant.so_far in
+    let (text, so, wrote, knows) = c.loop-shown.invariant.so_far in
     let next = printed_answer (λ (s : Shown g.row.S.Denot g.row.W.Denot g.W.Sink). s.source) (λ a b. GivesShown g.S.Source.gives a.source b.source a.lines b.lines)
-    g.S.Source.gives g.S.Source.has_ended (λ a b xs given. given.gave) c.args.session.now c.loop-shown.printed c.next_record.new.source
+    g.S.Source.gives g.S.Source.has_ended (λ a b xs given. given.gave) c.args.options.now.session c.loop-shown.printed c.next_record.new.source
     c.loop-shown.reader c.next_record.follows.lender-at-none c.next_record.result so.calm so.going c.next_record.follows.holds-at-none.0 in
     let is = rw (c.in-Ok-None.is, c.in-Ok-None.field-0-is) at next.0 in
-    let stops = stops_at_end g.S.Source.gives g.S.Source.has_ended g.met.S.Source.joined g.S.Source.given_count g.met.S.Source.counted c.args.session.now c.args.printed.now.source {X = Unit {0}} (tt {0}) _ _ _ _ text so is in record {
+    let stops = stops_at_end g.S.Source.gives g.S.Source.has_ended g.met.S.Source.joined g.S.Source.given_count g.met.S.Source.counted c.args.options.now c.args.printed.now.source {X = Unit {0}} (tt {0}) _ _ _ _ text so is in record {
       pieces = stops.pieces;
       rest = stops.rest;
       knows = stops.knows;
@@ -81,12 +93,12 @@ returns-in-Ok-None-clause-puts g c =
 pub returns-in-Err-clause-puts : goal.returns-in-Err-clause-puts
 returns-in-Err-clause-puts g c =
     let law : Joins g.W.Sink = record { joined = g.met.W.Sink.joined } in
-    let (text, so, wrote) = c.loop-shown.invariant.so_far in
+    let (text, so, wrote, knows) = c.loop-shown.invariant.so_far in
     let next = printed_answer (λ (s : Shown g.row.S.Denot g.row.W.Denot g.W.Sink). s.source) (λ a b. GivesShown g.S.Source.gives a.source b.source a.lines b.lines)
-    g.S.Source.gives g.S.Source.has_ended (λ a b xs given. given.gave) c.args.session.now c.loop-shown.printed c.next_record.new.source
+    g.S.Source.gives g.S.Source.has_ended (λ a b xs given. given.gave) c.args.options.now.session c.loop-shown.printed c.next_record.new.source
     c.loop-shown.reader c.next_record.follows.lender-at-none c.next_record.result so.calm so.going c.next_record.follows.holds-at-none.0 in
     let is = rw (c.in-Err.is) at next.0 in
-    let stops = stops_at_fault g.S.Source.gives g.S.Source.has_ended g.met.S.Source.joined g.S.Source.given_count g.met.S.Source.counted c.args.session.now c.args.printed.now.source {X = Unit {0}} _ _ _ _ text c.in-Err.fault so is in record {
+    let stops = stops_at_fault g.S.Source.gives g.S.Source.has_ended g.met.S.Source.joined g.S.Source.given_count g.met.S.Source.counted c.args.options.now c.args.printed.now.source {X = Unit {0}} _ _ _ _ text c.in-Err.fault so is in record {
       pieces = stops.pieces;
       rest = stops.rest;
       knows = stops.knows;
@@ -101,13 +113,15 @@ returns-in-Err-clause-puts g c =
 pub returns-then-has_failed-clause-puts : goal.returns-then-has_failed-clause-puts
 returns-then-has_failed-clause-puts g c =
     let law : Joins g.W.Sink = record { joined = g.met.W.Sink.joined } in
-    let (text, so, wrote) = c.loop-shown.invariant.so_far in
-    let (line, is_line, put) = c.put_record.ensures in
+    let (text, so, wrote, knows) = c.loop-shown.invariant.so_far in
+    let (line, is, put) = c.put_record.ensures.line (came_in so.pieces) knows in
+    let is_line = subst (λ (f : LineForm). IsPlacedLine f c.args.options.now.session (came_in so.pieces) (placed_as None (shown_of c.in-Ok-Some.shown)) line)
+    c.loop-shown.invariant.form is in
     let next = printed_answer (λ (s : Shown g.row.S.Denot g.row.W.Denot g.W.Sink). s.source) (λ a b. GivesShown g.S.Source.gives a.source b.source a.lines b.lines)
-    g.S.Source.gives g.S.Source.has_ended (λ a b xs given. given.gave) c.args.session.now c.loop-shown.printed c.next_record.new.source
+    g.S.Source.gives g.S.Source.has_ended (λ a b xs given. given.gave) c.args.options.now.session c.loop-shown.printed c.next_record.new.source
     c.loop-shown.reader c.next_record.follows.lender-at-none c.next_record.result so.calm so.going c.next_record.follows.holds-at-none.0 in
     let is = rw (c.in-Ok-Some.is, c.in-Ok-Some.field-0-is) at next.0 in
-    let done = answered g.S.Source.gives g.S.Source.has_ended g.met.S.Source.joined g.S.Source.given_count g.met.S.Source.counted c.args.session.now c.args.printed.now.source _ _ _ _ text line _ so is is_line in record {
+    let (done, behind) = answered g.S.Source.gives g.S.Source.has_ended g.met.S.Source.joined g.S.Source.given_count g.met.S.Source.counted c.args.options.now c.args.printed.now.source _ _ _ _ text line _ so is is_line in record {
       pieces = done.pieces;
       rest = [];
       knows = (done.last, done.others, done.skipped);
