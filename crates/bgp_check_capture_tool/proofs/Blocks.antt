@@ -13,13 +13,14 @@ use Rattle.bgp_text.specs.Lines.{Writes}
 use Rattle.bgp_text.specs.declared.lines.Lines.{Lines}
 use Rattle.bgp_text.proofs.Pieces.{Joins, and_then}
 use Rattle.bgp_check_text.specs.Tally.{no_tally}
+use Rattle.bgp_check_text.specs.declared.quiet.Printing.{Printing}
 use Rattle.bgp_check_text.specs.declared.tally.Tally.{Tally}
 use Rattle.bgp_check_capture_tool.specs.Checking.{Block, IsBlock, PutsBlocks, block_text, blocks_text, faults_in, tally_from, with_block}
 use Rattle.bgp_check_capture_tool.specs.Firsts.{firsts_after, with_first}
 use Rattle.bgp_list.specs.Sessions.{fault_text, session_line}
 use Rattle.bgp_check_capture_tool.specs.Ends.{IsSessionTold}
 use Rattle.bgp_check_capture_tool.specs.Putting.{PutsSession}
-use Rattle.bgp_check_capture_tool.specs.Text.{ends_text}
+use Rattle.bgp_check_capture_tool.specs.Text.{ends_text, session_text}
 use Rattle.bgp_check_capture_tool.specs.declared.telling.Telling.{Telling}
 
 -- what is left of a list is left of it again
@@ -36,10 +37,10 @@ pub held_are_own : {Z : Type 0} (named : List Located) (sessions : Sessions Z) (
 held_are_own named sessions addresses holds =
     ap (records_between addresses) (holds.each addresses) ∙ kept_twice (is_between addresses) named ∙ sym (holds.each addresses)
 
-text_of : (routes : Bool) (named : List Located) (blocks : List Block) (one : Block) → blocks_text routes named blocks ++ block_text routes named one ≡ blocks_text routes named (blocks ++ one ∷ [])
-text_of routes named blocks one =
-    ap (λ (o : List ℕ). blocks_text routes named blocks ++ o) (sym (append-nil (block_text routes named one)))
-    ∙ sym (flat_map-append (block_text routes named) blocks (one ∷ []))
+text_of : (printing : Printing) (named : List Located) (blocks : List Block) (one : Block) → blocks_text printing named blocks ++ block_text printing named one ≡ blocks_text printing named (blocks ++ one ∷ [])
+text_of printing named blocks one =
+    ap (λ (o : List ℕ). blocks_text printing named blocks ++ o) (sym (append-nil (block_text printing named one)))
+    ∙ sym (flat_map-append (block_text printing named) blocks (one ∷ []))
 
 firsts_of : (firsts : List (Option CaptureFault)) (blocks : List Block) (one : Block) → with_first (firsts_after firsts (faults_in blocks)) one.fault ≡ firsts_after firsts (faults_in (blocks ++ one ∷ []))
 firsts_of firsts [] one = refl
@@ -71,7 +72,7 @@ one_put {T} {Z} law telling named sessions known i d lines middle lines' between
       are = map-append (λ (b : Block). b.addresses) so_far.blocks (block ∷ []) ∙ ap (λ (xs : List Addresses). xs ++ addresses ∷ []) so_far.are
           ∙ subst (λ (ks : List Addresses). take i ks ++ addresses ∷ [] ≡ take (i + 1) ks) same (sym (take_more known i d within));
       told = all_of (IsBlock telling named) so_far.blocks block so_far.told (subst (λ (rs : List Located). IsSessionTold telling addresses rs puts.ends puts.fault) mine puts.told);
-      wrote = subst (λ (text : List ℕ). Writes lines lines' text) (text_of telling.routes named so_far.blocks block) (and_then law so_far.wrote (subst (λ (rs : List Located). Writes middle lines' (session_line addresses rs ++ (ends_text telling.routes addresses.local puts.ends ++ fault_text puts.fault))) mine puts.wrote));
+      wrote = subst (λ (text : List ℕ). Writes lines lines' text) (text_of telling.printing named so_far.blocks block) (and_then law so_far.wrote (subst (λ (rs : List Located). Writes middle lines' (session_text telling.printing.quiet (session_line addresses rs) (ends_text telling.printing addresses.local puts.ends ++ fault_text puts.fault))) mine puts.wrote));
       tallied = puts.tallied ∙ ap (λ (t : Tally). with_block t block) so_far.tallied ∙ tally_of no_tally so_far.blocks block;
       added = puts.added ∙ ap (λ (fs : List (Option CaptureFault)). with_first fs block.fault) so_far.added ∙ firsts_of [] so_far.blocks block;
     }

@@ -1,5 +1,5 @@
 -- The first stretch of records, and what is told of those before it.
-use Rattle.std.proofs.Common.{◌≡◌, ◌∙◌, ◌+◌, ◌<◌, ◌++◌, ℕ, suc, Bool, true, List, [], ◌∷◌, refl, sym, ap, subst, append-nil, arith, codes, drop, length, map, take}
+use Rattle.std.proofs.Common.{◌≡◌, ◌∙◌, ◌+◌, ◌<◌, ◌++◌, ℕ, suc, Bool, true, false, List, [], ◌∷◌, refl, sym, ap, subst, append-nil, arith, codes, drop, length, map, take}
 use Rattle.std.proofs.Math.Seq.{take-append_seam}
 use Rattle.std.proofs.lemmas.List.{length-map, take-map, drop-map}
 use Rattle.bgp_prefix.specs.Shown.{ShownRecord}
@@ -46,13 +46,13 @@ first_cut (r ∷ records) n some leaving is =
 -- ---- what is told of records at once
 
 pub staying_text : (routes : Bool) (local : Address) (records : List Record) → 0 < length records
-    → unjudged_line local (length records) (codes "these records do not begin with a change from Idle") ≡ ends_text routes local (front_ends (map shown_of records))
+    → unjudged_line local (length records) (codes "these records do not begin with a change from Idle") ≡ ends_text (record { routes = routes; quiet = false }) local (front_ends (map shown_of records))
 staying_text routes local [] some = absurd (omega (arith, some))
 staying_text routes local (r ∷ records) some =
     ap (λ n. unjudged_line local n (codes "these records do not begin with a change from Idle")) (sym (length-map (r ∷ records) shown_of)) ∙ sym (append-nil _)
 
 pub silent_text : (routes : Bool) (local : Address) (records : List Record) → 0 < length records
-    → unjudged_line local (length records) (why_text NothingSent) ≡ ends_text routes local (silent_ends (map shown_of records))
+    → unjudged_line local (length records) (why_text NothingSent) ≡ ends_text (record { routes = routes; quiet = false }) local (silent_ends (map shown_of records))
 silent_text routes local [] some = absurd (omega (arith, some))
 silent_text routes local (r ∷ records) some =
     ap (λ n. unjudged_line local n (why_text NothingSent)) (sym (length-map (r ∷ records) shown_of)) ∙ sym (append-nil _)

@@ -2,6 +2,7 @@ pub mod Apart
 pub mod Numbers
 pub mod Standing
 pub mod Fronts
+pub mod Adds
 pub mod ToldSoFar
 pub mod WholeSession
 pub mod Blocks

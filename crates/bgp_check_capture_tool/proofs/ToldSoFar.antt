@@ -1,24 +1,26 @@
 -- The ends of a session that are told so far.
-use Rattle.std.proofs.Common.{◌≡◌, ◌↔◌, ◌∙◌, ◌+◌, ◌<◌, ◌++◌, ℕ, Bool, IsTrue, List, [], ◌∷◌, refl, sym, ap, subst, append-nil, append_assoc, arith, length}
+use Rattle.std.proofs.Common.{◌≡◌, ◌↔◌, ◌∙◌, ◌+◌, ◌<◌, ◌++◌, ℕ, Bool, IsTrue, List, [], ◌∷◌, refl, sym, ap, subst, append-nil, append_assoc, arith, length, not}
 use Rattle.std.proofs.lemmas.Grind.{flat_map-append}
 use Rattle.std.proofs.lemmas.List.{length-append}
 use Rattle.bgp_prefix.specs.Shown.{ShownRecord}
 use Rattle.bgp_prefix.specs.declared.address.Address.{Address}
 use Rattle.mrt.specs.declared.sink.Sink as sinks
 use Rattle.bgp_machine.specs.Lists.{Each}
-use Rattle.bgp_text.specs.Lines.{Writes}
 use Rattle.bgp_text.specs.declared.lines.Lines.{Lines}
-use Rattle.bgp_text.proofs.Pieces.{Joins, and_then}
+use Rattle.bgp_text.proofs.Pieces.{Joins}
 use Rattle.bgp_check.specs.Cut.{IsWholeStretch, joined}
 use Rattle.bgp_check.specs.Stretch.{LeavesIdle}
 use Rattle.bgp_check.specs.BeforeLeaving.{IsAtLeaving, IsBeforeLeaving}
+use Rattle.bgp_check_text.specs.declared.quiet.Printing.{Printing}
 use Rattle.bgp_check_text.specs.declared.tally.Tally.{Tally}
 use Rattle.bgp_check_capture_tool.specs.Counted.{with_ends, with_one}
 use Rattle.bgp_check_capture_tool.specs.Ends.{AreTold, End, IsToldOf, front_ends}
-use Rattle.bgp_check_capture_tool.specs.Putting.{Puts, StretchesUpTo}
+use Rattle.bgp_check_capture_tool.specs.Putting.{Adds, Puts, StretchesUpTo}
+use Rattle.bgp_check_capture_tool.specs.declared.ends.Put.{Put}
+use Rattle.bgp_check_capture_tool.proofs.Adds.{adds_then}
 use Rattle.bgp_check_capture_tool.specs.StretchEnd.{View}
 use Rattle.bgp_check_capture_tool.specs.Stretches.{AreCut, IsFirst, first_of}
-use Rattle.bgp_check_capture_tool.specs.Text.{end_text, ends_text}
+use Rattle.bgp_check_capture_tool.specs.Text.{ends_text, kept_text}
 
 -- ---- lists
 
@@ -47,10 +49,10 @@ pub counted_then : (tally : Tally) (front ends : List End) → with_ends (with_e
 counted_then tally [] ends = refl
 counted_then tally (e ∷ front) ends = counted_then (with_one tally e) front ends
 
-text_more : (routes : Bool) (local : Address) (ends : List End) (end : End) → ends_text routes local ends ++ end_text routes local end ≡ ends_text routes local (ends ++ end ∷ [])
-text_more routes local ends end =
-    ap (λ (o : List ℕ). ends_text routes local ends ++ o) (sym (append-nil (end_text routes local end)))
-    ∙ sym (flat_map-append (end_text routes local) ends (end ∷ []))
+text_more : (printing : Printing) (local : Address) (ends : List End) (end : End) → ends_text printing local ends ++ kept_text printing local end ≡ ends_text printing local (ends ++ end ∷ [])
+text_more printing local ends end =
+    ap (λ (o : List ℕ). ends_text printing local ends ++ o) (sym (append-nil (kept_text printing local end)))
+    ∙ sym (flat_map-append (kept_text printing local) ends (end ∷ []))
 
 -- ---- one stretch more
 
@@ -71,22 +73,23 @@ told_more view before (s ∷ stretches) stretch behind (e ∷ ends) end told is 
 
 -- These records are told so far, of which so many are: what stands before the first stretch and some
 -- stretches. This rest is left.
-pub record SoFar {T : Type 0} {sink : sinks.Ghosts T} (routes : Bool) (view : View) (records rest : List ShownRecord) (before : ℕ)
-    (lines lines' : Lines T sink) (tally tally' : Tally) : Type 0 where
+pub record SoFar {T : Type 0} {sink : sinks.Ghosts T} (heading : List ℕ) (printing : Printing) (view : View) (records rest : List ShownRecord) (before : ℕ)
+    (lines lines' : Lines T sink) (tally : Tally) (put : Put) : Type 0 where
   pub front : List ShownRecord
   pub stretches : List (List ShownRecord)
   pub ends : List End
   pub cut : AreCut records front stretches rest
   pub told : AreTold view (length front) stretches rest ends
   pub many : before ≡ length front + length (joined stretches)
-  pub wrote : Writes lines lines' (ends_text routes view.session.local (front_ends front ++ ends))
-  pub tallied : tally' ≡ with_ends tally (front_ends front ++ ends)
+  pub adds : Adds heading lines lines' (not printing.quiet) put.is_headed (ends_text printing view.session.local (front_ends front ++ ends))
+  pub tallied : put.tally ≡ with_ends tally (front_ends front ++ ends)
 
 -- none is yet
-pub none_told : {T : Type 0} {sink : sinks.Ghosts T} (routes : Bool) (view : View) (records front rest : List ShownRecord) (count before : ℕ) (lines lines' : Lines T sink) (tally tally' : Tally)
-    → before ≡ length front → (is : IsBeforeLeaving records count) → front ≡ is.front → rest ≡ is.rest → ((routes : Bool) → Writes lines lines' (ends_text routes view.session.local (front_ends front)))
-    → tally' ≡ with_ends tally (front_ends front) → SoFar routes view records rest before lines lines' tally tally'
-none_told {T} {sink} routes view records front rest count before lines lines' tally tally' is_before is is_front is_rest wrote tallied =
+pub none_told : {T : Type 0} {sink : sinks.Ghosts T} (heading : List ℕ) (printing : Printing) (view : View) (records front rest : List ShownRecord) (count before : ℕ) (lines lines' : Lines T sink) (tally : Tally) (put : Put)
+    → before ≡ length front → (is : IsBeforeLeaving records count) → front ≡ is.front → rest ≡ is.rest
+    → Adds heading lines lines' (not printing.quiet) put.is_headed (ends_text printing view.session.local (front_ends front))
+    → put.tally ≡ with_ends tally (front_ends front) → SoFar heading printing view records rest before lines lines' tally put
+none_told {T} {sink} heading printing view records front rest count before lines lines' tally put is_before is is_front is_rest adds tallied =
     let none : front_ends front ++ [] ≡ front_ends front = append-nil (front_ends front) in
     record {
       front = front;
@@ -100,16 +103,17 @@ none_told {T} {sink} routes view records front rest count before lines lines' ta
       };
       told = tt;
       many = omega (arith, is_before);
-      wrote = subst (λ (es : List End). Writes lines lines' (ends_text routes view.session.local es)) (sym none) (wrote routes);
+      adds = subst (λ (es : List End). Adds heading lines lines' (not printing.quiet) put.is_headed (ends_text printing view.session.local es)) (sym none) adds;
       tallied = tallied ∙ ap (with_ends tally) (sym none);
     }
 
 -- one more is
-pub one_told : {T : Type 0} {sink : sinks.Ghosts T} → Joins sink → (routes : Bool) (view : View) (records rest stretch behind : List ShownRecord) (before count : ℕ) (end : End)
-    (lines middle lines' : Lines T sink) (tally between tally' : Tally) → SoFar routes view records rest before lines middle tally between
-    → IsFirst rest stretch behind → count ≡ length stretch → IsToldOf view before stretch (first_of behind) end → Writes middle lines' (end_text routes view.session.local end)
-    → tally' ≡ with_one between end → SoFar routes view records behind (before + count) lines lines' tally tally'
-one_told {T} {sink} law routes view records rest stretch behind before count end lines middle lines' tally between tally' so_far first is_count is wrote tallied =
+pub one_told : {T : Type 0} {sink : sinks.Ghosts T} → Joins sink → (heading : List ℕ) (printing : Printing) (view : View) (records rest stretch behind : List ShownRecord) (before count : ℕ) (end : End)
+    (lines middle lines' : Lines T sink) (tally : Tally) (between put : Put) → SoFar heading printing view records rest before lines middle tally between
+    → IsFirst rest stretch behind → count ≡ length stretch → IsToldOf view before stretch (first_of behind) end
+    → Adds heading middle lines' between.is_headed put.is_headed (kept_text printing view.session.local end)
+    → put.tally ≡ with_one between.tally end → SoFar heading printing view records behind (before + count) lines lines' tally put
+one_told {T} {sink} law heading printing view records rest stretch behind before count end lines middle lines' tally between put so_far first is_count is adds tallied =
     let front = so_far.front in
     let stretches = so_far.stretches in
     let longer : front_ends front ++ (so_far.ends ++ end ∷ []) ≡ (front_ends front ++ so_far.ends) ++ end ∷ [] = sym (append_assoc (front_ends front) so_far.ends (end ∷ [])) in
@@ -129,19 +133,20 @@ one_told {T} {sink} law routes view records rest stretch behind before count end
           (subst (λ (xs : List ShownRecord). AreTold view (length front) stretches xs so_far.ends) first.whole so_far.told)
           (subst (λ (n : ℕ). IsToldOf view n stretch (first_of behind) end) many is);
       many = omega (arith, many, lengths, is_count);
-      wrote = subst (λ (es : List End). Writes lines lines' (ends_text routes view.session.local es)) (sym longer)
-          (subst (λ (text : List ℕ). Writes lines lines' text) (text_more routes view.session.local (front_ends front ++ so_far.ends) end) (and_then law so_far.wrote wrote));
+      adds = subst (λ (es : List End). Adds heading lines lines' (not printing.quiet) put.is_headed (ends_text printing view.session.local es)) (sym longer)
+          (subst (λ (text : List ℕ). Adds heading lines lines' (not printing.quiet) put.is_headed text) (text_more printing view.session.local (front_ends front ++ so_far.ends) end)
+          (adds_then law heading lines middle lines' (not printing.quiet) between.is_headed put.is_headed _ _ so_far.adds adds));
       tallied = tallied ∙ ap (λ (t : Tally). with_one t end) so_far.tallied ∙ counted_more tally (front_ends front ++ so_far.ends) end ∙ ap (with_ends tally) (sym longer);
     }
 
 -- all are, or all but the rest
-pub told_up_to : {T : Type 0} {sink : sinks.Ghosts T} (routes : Bool) (view : View) (records rest : List ShownRecord) (before : ℕ) (all : Bool) (lines lines' : Lines T sink) (tally tally' : Tally)
-    → (IsTrue all ↔ rest ≡ []) → SoFar routes view records rest before lines lines' tally tally'
-    → Puts routes view.session.local lines lines' tally tally' (StretchesUpTo view records all)
-told_up_to routes view records rest before all lines lines' tally tally' done so_far = record {
+pub told_up_to : {T : Type 0} {sink : sinks.Ghosts T} (heading : List ℕ) (printing : Printing) (view : View) (records rest : List ShownRecord) (before : ℕ) (all : Bool) (lines lines' : Lines T sink) (tally : Tally) (put : Put)
+    → (IsTrue all ↔ rest ≡ []) → SoFar heading printing view records rest before lines lines' tally put
+    → Puts heading printing view.session.local lines lines' tally put (StretchesUpTo view records all)
+told_up_to heading printing view records rest before all lines lines' tally put done so_far = record {
   ends = front_ends so_far.front ++ so_far.ends;
   told = (rest, done, record { front = so_far.front; stretches = so_far.stretches; later = so_far.ends; cut = so_far.cut; told = so_far.told; are = refl });
-  wrote = so_far.wrote;
+  adds = so_far.adds;
   tallied = so_far.tallied;
 }
 

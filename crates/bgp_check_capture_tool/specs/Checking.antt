@@ -16,13 +16,14 @@ use Rattle.bgp_tool.specs.Answer.{IsWritten}
 use Rattle.bgp_list.specs.Capture.{no_memory}
 use Rattle.bgp_list.specs.Sessions.{fault_text, session_line}
 use Rattle.bgp_check_text.specs.Tally.{has_verdict, is_empty, is_incomplete, no_tally, status_of}
-use Rattle.bgp_check_text.specs.Tally.{tally_line}
+use Rattle.bgp_check_text.specs.Tally.{last_text}
+use Rattle.bgp_check_text.specs.declared.quiet.Printing.{Printing}
 use Rattle.bgp_check_text.specs.declared.tally.Tally.{Tally}
 use Rattle.bgp_check_capture_tool.specs.Counted.{with_ends, with_fault}
 use Rattle.bgp_check_capture_tool.specs.Ends.{End, IsSessionTold}
 use Rattle.bgp_check_capture_tool.specs.Firsts.{firsts_after, with_first}
 use Rattle.bgp_check_capture_tool.specs.Judging.{telling_where}
-use Rattle.bgp_check_capture_tool.specs.Text.{ends_text}
+use Rattle.bgp_check_capture_tool.specs.Text.{ends_text, session_text}
 use Rattle.bgp_check_capture_tool.specs.declared.nothing.NothingJudged.{NothingJudged}
 use Rattle.bgp_check_capture_tool.specs.declared.options.CaptureOptions.{CaptureOptions}
 use Rattle.bgp_check_capture_tool.specs.declared.telling.Telling.{Telling}
@@ -41,13 +42,14 @@ IsBlock telling named block =
     IsSessionTold telling block.addresses (records_between block.addresses named) block.ends
     block.fault
 
-abbrev pub block_text : Bool → List Located → Block → List ℕ
-block_text routes named block =
-    session_line block.addresses (records_between block.addresses named)
-    ++ (ends_text routes block.addresses.local block.ends ++ fault_text block.fault)
+abbrev pub block_text : Printing → List Located → Block → List ℕ
+block_text printing named block =
+    session_text printing.quiet
+    (session_line block.addresses (records_between block.addresses named))
+    (ends_text printing block.addresses.local block.ends ++ fault_text block.fault)
 
-abbrev pub blocks_text : Bool → List Located → List Block → List ℕ
-blocks_text routes named blocks = flat_map (block_text routes named) blocks
+abbrev pub blocks_text : Printing → List Located → List Block → List ℕ
+blocks_text printing named blocks = flat_map (block_text printing named) blocks
 
 abbrev pub with_block : Tally → Block → Tally
 with_block tally block = with_fault (with_ends tally block.ends) block.fault
@@ -68,7 +70,7 @@ pub record PutsBlocks {T : Type 0} {sink : sinks.Ghosts T} (telling : Telling)
   pub blocks : List Block
   pub are : map (λ b. b.addresses) blocks ≡ sessions
   pub told : AllByRecursion (IsBlock telling named) blocks
-  pub wrote : Writes lines lines' (blocks_text telling.routes named blocks)
+  pub wrote : Writes lines lines' (blocks_text telling.printing named blocks)
   pub tallied : tally' ≡ tally_from tally blocks
   pub added : firsts' ≡ firsts_after firsts (faults_in blocks)
 
@@ -78,7 +80,7 @@ pub record PutsBlocks {T : Type 0} {sink : sinks.Ghosts T} (telling : Telling)
 -- of it is too long for a session without extended messages
 abbrev pub telling_of : CaptureOptions → Bool → Option CaptureFault → Telling
 telling_of options plain fault = telling_where fault record {
-  routes = options.routes;
+  printing = options.printing;
   settings = options.settings;
   is_plain = plain;
 }
@@ -96,7 +98,7 @@ pub record TellsAll (options : CaptureOptions) (octets : List ℕ) (ending : End
     pub blocks : List Block
     pub are : map (λ b. b.addresses) blocks ≡ sessions_in named
     pub told : AllByRecursion (IsBlock (telling_of options plain fault) named) blocks
-    pub is_text : text ≡ blocks_text options.routes named blocks
+    pub is_text : text ≡ blocks_text options.printing named blocks
     pub is_tally : tally ≡ tally_from no_tally blocks
     pub are_firsts : firsts ≡ firsts_after [] (faults_in blocks)
     pub is_fault : fault ≡ fault_by ending refusal offset
@@ -156,5 +158,6 @@ pub record ChecksCapture {S T : Type 0} (gives : S → S → List ℕ → Type 0
     pub are_firsts : firsts ≡ with_first of_blocks fault
     pub is_nothing : nothing ≡ nothing_by tally fault
     pub written : IsWritten takes failures
-        (text ++ (fault_text fault ++ (nothing_text tally ++ tally_line tally)))
+        (text ++ (fault_text fault ++ (nothing_text tally
+        ++ last_text options.printing.quiet tally)))
         (status_of tally) sink sink' status

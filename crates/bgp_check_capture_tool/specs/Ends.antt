@@ -36,6 +36,10 @@ session_of addresses = record {
   extended = false;
 }
 
+-- between these addresses
+abbrev pub addresses_of : Session → Addresses
+addresses_of session = record { peer = session.peer; local = session.local }
+
 -- ---- its stretches
 
 abbrev pub IsToldOf : View → ℕ → List ShownRecord → Option ShownRecord → End → Type 0

@@ -33,7 +33,7 @@ use Rattle.bgp_check.specs.Left.{HasVerdictWhereLeft}
 use Rattle.bgp_check.specs.SessionOffers.{HearsOffer, SendsOffer}
 use Rattle.bgp_check.specs.Passed.{Keeps, Left, nothing_left}
 use Rattle.bgp_check.specs.StretchTold.{offers_of, with_leaving}
-use Rattle.bgp_check_text.specs.Tally.{status_of, tally_line}
+use Rattle.bgp_check_text.specs.Tally.{last_text, status_of}
 use Rattle.bgp_check_text.specs.declared.tally.Tally.{Tally}
 use Rattle.bgp_list.specs.Sessions.{fault_text}
 use Rattle.bgp_check_capture_tool.specs.Checking.{Block, IsBlock, blocks_text, nothing_text}
@@ -142,8 +142,8 @@ pub record HasTrueNoes (options : CaptureOptions) (octets : List ℕ) (fault : O
   pub has : HasSuchRecords octets named offset refusal plain
   pub blocks : List Block
   pub told : AllByRecursion (IsBlock (telling_of options plain fault) named) blocks
-  pub noes : AllByRecursion (NoesAreTrue options.routes named) blocks
-  pub is_text : text ≡ blocks_text options.routes named blocks
+  pub noes : AllByRecursion (NoesAreTrue options.printing.routes named) blocks
+  pub is_text : text ≡ blocks_text options.printing named blocks
 
 -- These octets are held of the source. What is written is such a text, or none, and behind it no
 -- line of a session.
@@ -158,7 +158,8 @@ pub record PrintsTrueNoes {S T : Type 0} (gives : S → S → List ℕ → Type 
     pub noes : HasTrueNoes options octets fault text ⊎ (text ≡ [])
     pub tally : Tally
     pub written : IsWritten takes failures
-        (text ++ (fault_text fault ++ (nothing_text tally ++ tally_line tally)))
+        (text ++ (fault_text fault ++ (nothing_text tally
+        ++ last_text options.printing.quiet tally)))
         (status_of tally) sink sink' status
 
 -- ---- the law

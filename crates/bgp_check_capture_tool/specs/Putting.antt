@@ -1,5 +1,6 @@
 -- What putting the lines of a session comes to.
-use Rattle.std.specs.Prelude.{◌≡◌, ◌↔◌, ◌++◌, Bool, IsTrue, List, [], Option}
+use Rattle.std.specs.Prelude.{◌≡◌, ◌↔◌, ◌++◌, ◌||◌, ℕ, Bool, true, false, IsTrue, List, []}
+use Rattle.std.specs.Prelude.{◌∷◌, Option, if◌then◌else◌, not}
 use Rattle.bgp_prefix.specs.Shown.{ShownRecord}
 use Rattle.bgp_prefix.specs.declared.address.Address.{Address}
 use Rattle.mrt.specs.declared.fault.CaptureFault.{CaptureFault}
@@ -9,22 +10,43 @@ use Rattle.mrt_sessions.specs.declared.addresses.Addresses.{Addresses}
 use Rattle.bgp_text.specs.Lines.{Writes}
 use Rattle.bgp_text.specs.declared.lines.Lines.{Lines}
 use Rattle.bgp_list.specs.Sessions.{fault_text, session_line}
+use Rattle.bgp_check_text.specs.declared.quiet.Printing.{Printing}
 use Rattle.bgp_check_text.specs.declared.tally.Tally.{Tally}
 use Rattle.bgp_check_capture_tool.specs.Counted.{with_ends, with_fault}
-use Rattle.bgp_check_capture_tool.specs.Ends.{End, IsSessionTold, TellsRecords, TellsStretches}
+use Rattle.bgp_check_capture_tool.specs.Ends.{End, IsSessionTold, TellsRecords}
+use Rattle.bgp_check_capture_tool.specs.Ends.{TellsStretches, addresses_of}
 use Rattle.bgp_check_capture_tool.specs.Firsts.{with_first}
 use Rattle.bgp_check_capture_tool.specs.StretchEnd.{View}
-use Rattle.bgp_check_capture_tool.specs.Text.{ends_text}
+use Rattle.bgp_check_capture_tool.specs.Text.{ends_text, headed, session_text}
+use Rattle.bgp_check_capture_tool.specs.declared.ends.Put.{Put}
 use Rattle.bgp_check_capture_tool.specs.declared.telling.Telling.{Telling}
 
--- Ends of a session with this local system were put, and are counted: such as are told.
-pub record Puts {T : Type 0} {sink : sinks.Ghosts T} (routes : Bool) (local : Address)
-    (lines lines' : Lines T sink) (tally tally' : Tally) (AreTold : List End → Type 0) : Type 0
-  where
-    pub ends : List End
-    pub told : AreTold ends
-    pub wrote : Writes lines lines' (ends_text routes local ends)
-    pub tallied : tally' ≡ with_ends tally ends
+-- there is some text
+abbrev pub is_some_text : List ℕ → Bool
+is_some_text [] = false
+is_some_text (octet ∷ rest) = true
+
+-- This text was put of a session, and before it the session's own line, unless that was put before,
+-- or there is no text.
+pub record Adds {T : Type 0} {sink : sinks.Ghosts T} (heading : List ℕ)
+    (lines lines' : Lines T sink) (before after : Bool) (text : List ℕ) : Type 0 where
+  pub wrote : Writes lines lines' (if before then text else headed heading text)
+  pub is_headed : after ≡ before || is_some_text text
+
+-- the own line of a session that is seen so
+abbrev pub heading_of : View → List ℕ
+heading_of view = session_line (addresses_of view.session) view.named
+
+-- Ends of a session that is seen so were put, and are counted: such as are told. Its own line stands
+-- before them, unless what is well is left out and they all are.
+pub record Puts {T : Type 0} {sink : sinks.Ghosts T} (heading : List ℕ) (printing : Printing)
+    (local : Address) (lines lines' : Lines T sink) (tally : Tally) (put : Put)
+    (AreTold : List End → Type 0) : Type 0 where
+  pub ends : List End
+  pub told : AreTold ends
+  pub adds : Adds heading lines lines' (not printing.quiet) put.is_headed
+      (ends_text printing local ends)
+  pub tallied : put.tally ≡ with_ends tally ends
 
 -- those of all of these records, or of all but a rest
 abbrev pub StretchesUpTo : View → List ShownRecord → Bool → List End → Type 0
@@ -46,7 +68,7 @@ pub record PutsSession {T : Type 0} {sink : sinks.Ghosts T} (telling : Telling)
   pub fault : Option CaptureFault
   pub told : IsSessionTold telling addresses named ends fault
   pub wrote : Writes lines lines'
-      (session_line addresses named
-      ++ (ends_text telling.routes addresses.local ends ++ fault_text fault))
+      (session_text telling.printing.quiet (session_line addresses named)
+      (ends_text telling.printing addresses.local ends ++ fault_text fault))
   pub tallied : tally' ≡ with_fault (with_ends tally ends) fault
   pub added : firsts' ≡ with_first firsts fault

@@ -1,5 +1,5 @@
 -- The lines of a session.
-use Rattle.std.specs.Prelude.{◌++◌, Bool, ℕ, List, codes}
+use Rattle.std.specs.Prelude.{◌++◌, Bool, ℕ, List, [], ◌∷◌, codes, if◌then◌else◌}
 use Rattle.std.specs.List.{flat_map}
 use Rattle.bgp_prefix.specs.declared.address.Address.{Address}
 use Rattle.bgp_judge.specs.Verdict.{No, Unfinished, VerdictValue, Yes}
@@ -9,7 +9,9 @@ use Rattle.bgp_check.specs.declared.peer_as.PeerAs.{PeerAs}
 use Rattle.bgp_check_text.specs.End.{part_end_text}
 use Rattle.bgp_check_text.specs.Text.{no_line, not_judged_line, unfinished_line, why_text}
 use Rattle.bgp_check_text.specs.Text.{yes_lines}
+use Rattle.bgp_check_text.specs.Quiet.{is_left_out}
 use Rattle.bgp_check_text.specs.Unshown.{passed_notes}
+use Rattle.bgp_check_text.specs.declared.quiet.Printing.{Printing}
 use Rattle.bgp_check_capture_tool.specs.Ends.{End, Silent, Staying, Stretch}
 use Rattle.bgp_check_capture_tool.specs.StretchEnd.{StretchEnd}
 use Rattle.bgp_check_capture_tool.specs.Judging.{judge_text}
@@ -48,5 +50,27 @@ end_text routes local (Staying count) =
     unjudged_line local count (codes "these records do not begin with a change from Idle")
 end_text routes local (Stretch end) = answer_text routes end end.told.answer
 
-abbrev pub ends_text : Bool → Address → List End → List ℕ
-ends_text routes local ends = flat_map (end_text routes local) ends
+-- an end is left out, where those are that are well or not judged
+abbrev pub is_end_left_out : Bool → End → Bool
+is_end_left_out quiet (Silent count) = quiet
+is_end_left_out quiet (Staying count) = quiet
+is_end_left_out quiet (Stretch end) = is_left_out quiet end.told.answer
+
+-- the lines of an end that is told, and none of one that is left out
+abbrev pub kept_text : Printing → Address → End → List ℕ
+kept_text printing local end =
+    if is_end_left_out printing.quiet end then [] else end_text printing.routes local end
+
+abbrev pub ends_text : Printing → Address → List End → List ℕ
+ends_text printing local ends = flat_map (kept_text printing local) ends
+
+-- ---- a session
+
+-- a line stands before some others, and nowhere where there are none
+abbrev pub headed : List ℕ → List ℕ → List ℕ
+headed heading [] = []
+headed heading (octet ∷ rest) = heading ++ (octet ∷ rest)
+
+-- a session's own line stands before the others; alone only if what is well isn't left out
+abbrev pub session_text : Bool → List ℕ → List ℕ → List ℕ
+session_text quiet heading rest = if quiet then headed heading rest else heading ++ rest

@@ -1,7 +1,8 @@
 //! `bgp check` of a capture.
 
-ghost use Rattle.std.specs.Prelude.{◌≡◌, ◌<◌, [], List, None, Some, map};
+ghost use Rattle.std.specs.Prelude.{◌≡◌, ◌<◌, ◌||◌, [], List, None, Some, is_some, map};
 ghost use Rattle.bgp_list.specs.Capture.{no_memory};
+ghost use Rattle.bgp_list.specs.Sessions.{fault_text, session_line};
 ghost use Rattle.bgp_tool.specs.Front.{no_capture};
 ghost use Rattle.bgp_tool.specs.NothingFound.{without_records_by};
 ghost use Rattle.bgp_tool.specs.declared.note.CaptureCommand.TheVariants.{Check};
@@ -14,10 +15,10 @@ ghost use Rattle.bgp_check_text.specs.Tally.{no_tally};
 ghost use Rattle.bgp_check_capture_tool.specs.Checking.{ChecksCapture, PutsBlocks, PutsFile};
 ghost use Rattle.bgp_check_capture_tool.specs.Checking.{nothing_by, nothing_text};
 ghost use Rattle.bgp_check_capture_tool.specs.Firsts.{AreApart};
-ghost use Rattle.bgp_check_capture_tool.specs.Putting.{PutsSession};
+ghost use Rattle.bgp_check_capture_tool.specs.Putting.{Adds, PutsSession};
 
 use crate::counted::Counted;
-use crate::ends::{NO_MEMORY, put_ends};
+use crate::ends::{NO_MEMORY, put_ends, put_heading};
 use crate::firsts::NUMBERS;
 use crate::nothing::NothingJudged;
 use crate::options::CaptureOptions;
@@ -25,7 +26,7 @@ use crate::telling::Telling;
 use arrayvec::ArrayVec;
 use bgp_check_text::Tally;
 use bgp_judge::Tracker;
-use bgp_list::{put_fault, put_session};
+use bgp_list::put_fault;
 use bgp_text::Lines;
 use bgp_tool::{CaptureCommand, Note, hand_over, without_records};
 use mrt::{CaptureFault, Sink, Source};
@@ -64,6 +65,27 @@ impl CheckedCapture {
     }
 }
 
+/// Puts why not all records of a session are read, if they aren't, and before it the session's own
+/// line, if that isn't put yet.
+fn put_end_of<W: Sink>(
+    lines: &mut Lines<'_, W>,
+    addresses: Addresses,
+    named: &[NamedRecord<'_>],
+    is_headed: bool,
+    fault: Option<CaptureFault>,
+)
+    ensures { Adds (session_line addresses (map located named.now)) lines.old lines.new is_headed
+        (is_headed || is_some fault) (fault_text fault) }
+{
+    match fault {
+        None => lines.put(b""),
+        Some(fault) => {
+            put_heading(lines, addresses, named, is_headed);
+            put_fault(lines, Some(fault));
+        }
+    }
+}
+
 /// Puts what is told of the session that has these records in a file, and counts it.
 fn put_one<A: Allocator + Copy, T: Tracker<A>, W: Sink>(
     alloc: A,
@@ -80,11 +102,11 @@ fn put_one<A: Allocator + Copy, T: Tracker<A>, W: Sink>(
         counted.new.refusals.items }
     ensures apart { AreApart counted.new.refusals.items }
 {
-    put_session(lines, addresses, named);
+    put_heading(lines, addresses, named, telling.printing.quiet);
     let tally = counted.tally;
-    let (tally, fault) = put_ends::<A, T, W>(alloc, addresses, named, telling, lines, tally);
-    put_fault(lines, fault);
-    counted.tally = tally;
+    let (put, fault) = put_ends::<A, T, W>(alloc, addresses, named, telling, lines, tally);
+    put_end_of(lines, addresses, named, put.is_headed, fault);
+    counted.tally = put.tally;
     counted.add_fault(fault);
 }
 
@@ -241,7 +263,7 @@ pub(crate) fn check_capture<A: Allocator + Copy, T: Tracker<A>, R: Source, W: Si
     counted.add_fault(fault);
     let Counted { tally, refusals } = counted;
     put_nothing(&mut lines, tally);
-    tally.put(&mut lines);
+    tally.put_last(&mut lines, options.printing.quiet);
     let status = hand_over(&mut lines, tally.status());
     // No effect: it ends the loan of the sink.
     lines.into_sink();

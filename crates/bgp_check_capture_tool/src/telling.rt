@@ -5,14 +5,14 @@ ghost use Rattle.bgp_check_capture_tool.specs.Checking.{telling_of};
 ghost use Rattle.bgp_check_capture_tool.specs.Judging.{telling_where};
 
 use crate::options::CaptureOptions;
-use bgp_check_text::Settings;
+use bgp_check_text::{Printing, Settings};
 use mrt::CaptureFault;
 
 /// What is told of sessions of a file besides their verdicts.
 #[derive(Clone, Copy)]
 pub(crate) struct Telling {
-    /// The routes of each end are told.
-    pub(crate) routes: bool,
+    /// Which lines are printed.
+    pub(crate) printing: Printing,
     /// After which verdicts the options of `bgp judge` are.
     pub(crate) settings: Settings,
     /// No record of the file is too long for a session without extended messages (RFC 8654).
@@ -29,7 +29,7 @@ impl Telling {
         ensures { result ≡ telling_of options.now is_plain fault }
     {
         let telling = Telling {
-            routes: options.routes,
+            printing: options.printing,
             settings: options.settings,
             is_plain,
         };

@@ -18,6 +18,7 @@ use Rattle.bgp_recording.specs.Framed.{AreFramed, HasKind, IsRest, octets_of}
 use Rattle.bgp_recording.specs.Gathered.{IsHeard, IsSaid}
 use Rattle.bgp_recording.specs.Pieces.{IsFaultyOf, IsPiece, IsRefreshHeader, IsShortOf, Kept, PassedOver, Piece, kept, passed_over}
 use Rattle.bgp_recording.specs.Recorded.{IsRecordedInOrder}
+use Rattle.bgp_recording.specs.Moments.{end_moment, moment_in}
 use Rattle.bgp_recording.specs.Tells.{Event, Numbered, Passed, change, items_in, numbered_in, numbered_of}
 use Rattle.bgp_recording.specs.declared.entry.Entry.{Entry}
 use Rattle.bgp_recording.specs.declared.framing.Framing.{Framing}
@@ -214,17 +215,17 @@ short_in : (state : State) (before : Before) (events : List Event) → ArePlainI
 short_in state before [] all = (tt, tt)
 short_in state before (Passed second (Received m) ∷ later) all =
     let led = led_by_received state m.kind (is_answered_before_open m.kind (sent_in (items_in later))) in
-    let behind = short_in (state_then state led) (just_received m.kind) later (all_behind (change m.packet second state led) _ all.1) in
+    let behind = short_in (state_then state led) (just_received m.kind) later (all_behind (change (moment_in m) second state led) _ all.1) in
     ((all.0, behind.0), behind.1)
 short_in state before (Passed second (Sent m) ∷ later) all =
     let led = led_by_sent state m.kind before in
-    let behind = short_in (state_then state led) (just_sent state m.kind before) later (all_behind (change m.packet second state led) _ all.1) in
+    let behind = short_in (state_then state led) (just_sent state m.kind before) later (all_behind (change (moment_in m) second state led) _ all.1) in
     (behind.0, (all.0, behind.1))
 short_in state before (Passed second (Ended e) ∷ later) all =
     let ended = state_then state (led_by_end state) in
     let left = led_by_left state (are_left (received_in (items_in later))) in
     short_in (state_then ended left) Other later
-    (all_behind (change e.packet second ended left) _ (all_behind (change e.packet second state (led_by_end state)) _ all))
+    (all_behind (change (end_moment e) second ended left) _ (all_behind (change (end_moment e) second state (led_by_end state)) _ all))
 
 pub framed_alike : RecordsAreFramedAlike
 framed_alike old new within connection entries received sent finds also recorded =

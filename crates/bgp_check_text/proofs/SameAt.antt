@@ -20,6 +20,7 @@ tells_itself connection = record {
   opened_by = refl;
   packet = refl;
   second = refl;
+  micro = refl;
   received = record { octets = refl; givers = λ place. refl };
   sent = record { octets = refl; givers = λ place. refl };
   end = refl;

@@ -5,6 +5,7 @@ pub mod States
 pub mod Text
 pub mod Tally
 pub mod Settings
+pub mod Quiet
 pub mod JudgeLine
 pub mod Asked
 pub mod FramedAlike

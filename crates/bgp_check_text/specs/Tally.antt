@@ -1,6 +1,6 @@
 -- How many ends there are of each verdict, and how many refusals; and the exit status over them.
 use Rattle.std.specs.Prelude.{◌++◌, ◌+◌, ◌-◌, ◌^◌, ◌==◌, ◌&&◌, ◌||◌, ℕ, Bool, true, false, List}
-use Rattle.std.specs.Prelude.{codes, if◌then◌else◌, min, nat_lt}
+use Rattle.std.specs.Prelude.{[], codes, if◌then◌else◌, min, nat_lt, not}
 use Rattle.std.specs.Fmt.{decimal}
 use Rattle.bgp_judge.specs.Verdict.{No, Unfinished, VerdictValue, Yes}
 use Rattle.bgp_check.specs.Answered.{AnswerValue, JudgedAs, Unjudged}
@@ -88,6 +88,13 @@ is_empty tally =
 abbrev pub is_incomplete : Tally → Bool
 is_incomplete tally = tally.incomplete || is_empty tally
 
+-- something is told where what is well is left out: a no, what is unfinished, a refusal, or that
+-- there is nothing
+abbrev pub has_trouble : Tally → Bool
+has_trouble tally =
+    nat_lt 0 tally.no
+    || (nat_lt 0 tally.unfinished || (nat_lt 0 tally.refused || is_empty tally))
+
 -- the last line
 unfoldable pub tally_line : Tally → List ℕ
 tally_line tally =
@@ -96,3 +103,7 @@ tally_line tally =
     ++ (codes " no, " ++ (decimal tally.unfinished ++ (codes " unfinished, "
     ++ (decimal tally.not_judged ++ (codes " not judged; refused "
     ++ (decimal tally.refused ++ codes "\n")))))))))))
+
+-- it is left out with all that is well, where it would stand alone
+abbrev pub last_text : Bool → Tally → List ℕ
+last_text quiet tally = if quiet && not (has_trouble tally) then [] else tally_line tally

@@ -36,11 +36,14 @@ fn framings_by(config: &Config, skips_refresh: bool) -> Framings
     })
 }
 
-/// Whether two entries are the same record at the same packet.
+/// Whether two entries are the same record at the same packet, with the same time.
 fn is_same(one: &Entry<'_>, other: &Entry<'_>) -> bool
     ensures { IsTrue result ↔ (numbered_of one.now ≡ numbered_of other.now) }
 {
-    one.packet == other.packet && show_the_same(&one.record, &other.record)
+    one.packet == other.packet
+        && one.second == other.second
+        && one.micro == other.micro
+        && show_the_same(&one.record, &other.record)
 }
 
 /// Whether these are the same, one after another.

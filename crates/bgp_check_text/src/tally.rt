@@ -6,7 +6,7 @@ ghost use Rattle.bgp_text.specs.Lines.{Writes};
 ghost use Rattle.bgp_tool.specs.Status.{code_of};
 ghost use Rattle.bgp_check.specs.Answered.{answer_value};
 ghost use Rattle.bgp_check_text.specs.Tally.{has_verdict, is_empty, is_for_lack, is_incomplete};
-ghost use Rattle.bgp_check_text.specs.Tally.{no_tally, one_more};
+ghost use Rattle.bgp_check_text.specs.Tally.{has_trouble, last_text, no_tally, one_more};
 ghost use Rattle.bgp_check_text.specs.Tally.{status_of, tally_line, with_end, with_refusal};
 ghost use Rattle.bgp_check_text.specs.Tally.{with_unjudged, with_verdict};
 
@@ -177,6 +177,26 @@ impl Tally {
             Status::Done
         } else {
             Status::Refused
+        }
+    }
+
+    /// Whether something is told of an end or of the file where what is well is left out: a no, what
+    /// is unfinished, a refusal, or that there is nothing.
+    fn has_trouble(&self) -> bool
+        ensures { result ≡ has_trouble self.now }
+    {
+        0 < self.no || 0 < self.unfinished || 0 < self.refused || self.is_empty()
+    }
+
+    /// Puts the last line ([`put`](Tally::put)). Where what is well is left out (`quiet`), it is
+    /// left out, too, if it would stand alone.
+    pub fn put_last<W: Sink>(&self, lines: &mut Lines<'_, W>, quiet: bool)
+        ensures { Writes lines.old lines.new (last_text quiet self.now) }
+    {
+        if quiet && !self.has_trouble() {
+            lines.put(b"");
+        } else {
+            self.put(lines);
         }
     }
 

@@ -1,5 +1,5 @@
 -- The list of a recording is what is printed of it without the lines of its ends.
-use Rattle.std.proofs.Common.{◌≡◌, ◌∙◌, ◌++◌, ℕ, Bool, List, [], ◌∷◌, inl, inr, refl, sym, ap, append-nil, subst}
+use Rattle.std.proofs.Common.{◌≡◌, ◌∙◌, ◌++◌, ℕ, Bool, false, List, [], ◌∷◌, inl, inr, refl, sym, ap, append-nil, subst}
 use Rattle.std.specs.List.{AllByRecursion, Contains, flat_map}
 use Rattle.std.specs.List.Sorted.{IsStrictlySortedBy}
 use Rattle.std.specs.Map.{keys_of}
@@ -7,6 +7,7 @@ use Rattle.std.specs.Ordering.{nat_cmp}
 use Rattle.packets.specs.Packet.{Recorded}
 use Rattle.bgp_list.specs.Lines.{IsLineAt, line_text}
 use Rattle.bgp_list.specs.declared.line.Line.{Line}
+use Rattle.bgp_check_text.specs.declared.quiet.Printing.{Printing}
 use Rattle.bgp_check_tool.specs.declared.options.CheckOptions.{CheckOptions}
 use Rattle.bgp_check_tool.specs.Blocks.{AllRefused, Block, BothEnds, OneEnd, Refused, block_text}
 use Rattle.bgp_check_tool.specs.Checking.{blocks_text}
@@ -18,18 +19,28 @@ use Rattle.bgp_check_tool.proofs.OneList.{one_list}
 
 -- ---- the text
 
-one_text : (routes : Bool) (block : Block) → block_text routes block ≡ line_text (heading block) ++ end_lines routes block
+-- where nothing is left out
+abbrev aloud : Bool → Printing
+aloud routes = record { routes = routes; quiet = false }
+
+one_text : (routes : Bool) (block : Block) → block_text (aloud routes) block ≡ line_text (heading block) ++ end_lines routes block
 one_text routes (BothEnds session opening first second opener other) = refl
 one_text routes (OneEnd session opening first second) = refl
 one_text routes (Refused session opening refusal) = sym (append-nil (line_text (heading (Refused session opening refusal))))
 one_text routes (AllRefused addresses refusal) = sym (append-nil (line_text (heading (AllRefused addresses refusal))))
 
 all_text : (routes : Bool) (blocks : List (ℕ × Block))
-    → blocks_text routes blocks ≡ flat_map (λ (b : ℕ × Block). line_text (heading b.1) ++ end_lines routes b.1) blocks
+    → blocks_text (aloud routes) blocks ≡ flat_map (λ (b : ℕ × Block). line_text (heading b.1) ++ end_lines routes b.1) blocks
 all_text routes [] = refl
 all_text routes (block ∷ blocks) =
-    ap (λ (o : List ℕ). o ++ blocks_text routes blocks) (one_text routes block.1)
+    ap (λ (o : List ℕ). o ++ blocks_text (aloud routes) blocks) (one_text routes block.1)
     ∙ ap (λ (o : List ℕ). (line_text (heading block.1) ++ end_lines routes block.1) ++ o) (all_text routes blocks)
+
+loud_text : (printing : Printing) (blocks : List (ℕ × Block)) → printing.quiet ≡ false
+    → blocks_text printing blocks ≡ flat_map (λ (b : ℕ × Block). line_text (heading b.1) ++ end_lines printing.routes b.1) blocks
+loud_text printing blocks loud =
+    subst (λ (q : Bool). blocks_text (record { routes = printing.routes; quiet = q }) blocks ≡ flat_map (λ (b : ℕ × Block). line_text (heading b.1) ++ end_lines printing.routes b.1) blocks) (sym loud)
+    (all_text printing.routes blocks)
 
 -- ---- the lines
 
@@ -76,8 +87,8 @@ same_places [] = refl
 same_places (block ∷ blocks) = ap (λ (places : List ℕ). block.0 ∷ places) (same_places blocks)
 
 pub without_ends : ListIsWithoutEnds
-without_ends options packets last_packet blocks told has = record {
-  is_text = all_text options.routes blocks;
+without_ends options packets last_packet blocks told has loud = record {
+  is_text = loud_text options.printing blocks loud;
   are_lines = all_lines options packets last_packet blocks told has;
   are_places = same_places blocks;
 }

@@ -14,3 +14,4 @@ pub mod Alone
 pub mod Printed
 pub mod OneList
 pub mod Headings
+pub mod Quiet

@@ -34,19 +34,14 @@ use Rattle.bgp_check_tool.specs.Headings.{IsList}
 
 -- ---- what is told of one connection
 
-same_opening : (a b : Opening) → a.number ≡ b.number → a.local_port ≡ b.local_port → a.peer_port ≡ b.peer_port → a.opened_by ≡ b.opened_by → a.packet ≡ b.packet → a.second ≡ b.second → a ≡ b
-same_opening a b n l p o k s =
-    ap (λ (x : ℕ). let f : Opening = record { number = x; local_port = a.local_port; peer_port = a.peer_port; opened_by = a.opened_by; packet = a.packet; second = a.second } in f) n
-    ∙ ap (λ (x : ℕ). let f : Opening = record { number = b.number; local_port = x; peer_port = a.peer_port; opened_by = a.opened_by; packet = a.packet; second = a.second } in f) l
-    ∙ ap (λ (x : ℕ). let f : Opening = record { number = b.number; local_port = b.local_port; peer_port = x; opened_by = a.opened_by; packet = a.packet; second = a.second } in f) p
-    ∙ ap (λ (x : Side). let f : Opening = record { number = b.number; local_port = b.local_port; peer_port = b.peer_port; opened_by = x; packet = a.packet; second = a.second } in f) o
-    ∙ ap (λ (x : ℕ). let f : Opening = record { number = b.number; local_port = b.local_port; peer_port = b.peer_port; opened_by = b.opened_by; packet = x; second = a.second } in f) k
-    ∙ ap (λ (x : ℕ). let f : Opening = record { number = b.number; local_port = b.local_port; peer_port = b.peer_port; opened_by = b.opened_by; packet = b.packet; second = x } in f) s
+same_opening : (a b : Opening) → a.number ≡ b.number → a.local_port ≡ b.local_port → a.peer_port ≡ b.peer_port → a.opened_by ≡ b.opened_by → a.packet ≡ b.packet → a.second ≡ b.second → a.micro ≡ b.micro → a ≡ b
+same_opening a b n l p o k s m =
+    λ i. record { number = n i; local_port = l i; peer_port = p i; opened_by = o i; packet = k i; second = s i; micro = m i }
 
 one_opening : (segments : List Segment) (a b : Opening) → a.number ≡ b.number → OpensAs segments a → OpensAs segments b → a ≡ b
 one_opening [] a b n x y = absurd x
 one_opening (s ∷ before) a b n x y =
-    same_opening a b n (x.local_port ∙ sym y.local_port) (x.peer_port ∙ sym y.peer_port) (x.opened_by ∙ sym y.opened_by) (x.packet ∙ sym y.packet) (x.second ∙ sym y.second)
+    same_opening a b n (x.local_port ∙ sym y.local_port) (x.peer_port ∙ sym y.peer_port) (x.opened_by ∙ sym y.opened_by) (x.packet ∙ sym y.packet) (x.second ∙ sym y.second) (x.micro ∙ sym y.micro)
 
 chosen_is : (a b : ℕ) (r : Result ℕ Fault) → r ≡ Ok a → r ≡ Ok b → a ≡ b
 chosen_is a b r x y = cc

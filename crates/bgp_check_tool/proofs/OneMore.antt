@@ -62,7 +62,7 @@ pub record PutsFront {T Z : Type 0} {sink : sinks.Ghosts T} (options : CheckOpti
   pub told : AllByRecursion (λ (b : ℕ × Block). IsToldAt options packets last_packet b.0 b.1) blocks
   pub places : keys_of blocks ++ keys_of rest ≡ keys_of entries
   pub left : AreListed options.port packets rest
-  pub wrote : Writes lines lines' (blocks_text options.routes blocks)
+  pub wrote : Writes lines lines' (blocks_text options.printing blocks)
   pub tallied : tally' ≡ tally_from tally blocks
   pub added : firsts' ≡ firsts_after firsts (refusals_in blocks)
 
@@ -81,7 +81,7 @@ one_more {T} {Z} law options packets last_packet place one entries before rest l
       told = all_of (λ (b : ℕ × Block). IsToldAt options packets last_packet b.0 b.1) so_far.blocks (place, put.block) so_far.told put.told;
       places = keys_with so_far.blocks (place, put.block) (keys_of rest) ∙ places;
       left = left.1;
-      wrote = subst (λ (text : List ℕ). Writes lines lines' text) (text_of (λ (b : ℕ × Block). block_text options.routes b.1) so_far.blocks (place, put.block)) (and_then law so_far.wrote put.wrote);
+      wrote = subst (λ (text : List ℕ). Writes lines lines' text) (text_of (λ (b : ℕ × Block). block_text options.printing b.1) so_far.blocks (place, put.block)) (and_then law so_far.wrote put.wrote);
       tallied = put.tallied ∙ ap (λ (t : Tally). with_block t put.block) so_far.tallied ∙ tally_of tally so_far.blocks (place, put.block);
       added = put.added ∙ ap (λ (f : List (Option Refusal)). with_first f (refusal_in put.block)) so_far.added ∙ firsts_more firsts (refusals_in so_far.blocks) (refusal_in put.block)
           ∙ ap (firsts_after firsts) (sym (map-append (λ (b : ℕ × Block). refusal_in b.1) so_far.blocks ((place, put.block) ∷ [])));

@@ -1,5 +1,5 @@
 -- A connection as its other end has it goes by the same clock.
-use Rattle.std.proofs.Common.{ℕ, Option, None, Some, IfSome, option_map}
+use Rattle.std.proofs.Common.{◌≡◌, ℕ, Option, None, Some, IfSome, option_map}
 use Rattle.streams.specs.declared.connection.Connection.{Connection}
 use Rattle.streams.specs.declared.connection.End.{End}
 use Rattle.streams.specs.declared.passed.Side.{Side}
@@ -17,6 +17,11 @@ ended : (clock : ℕ → ℕ) (first : ℕ) (end : Option End) → IfSome end (�
 ended clock first None goes = goes
 ended clock first (Some end) goes = goes
 
+fraction_ended : (fraction : ℕ → Option ℕ) (end : Option End) → IfSome end (λ e. e.micro ≡ fraction e.packet)
+    → IfSome (option_map other_end end) (λ e. e.micro ≡ fraction e.packet)
+fraction_ended fraction None is = is
+fraction_ended fraction (Some end) is = is
+
 pub clocked : (side : Side) (connection : Connection) → IsClocked connection → IsClocked (seen_from side connection)
 clocked Local connection clock = clock
 clocked Peer connection clock = record {
@@ -26,4 +31,11 @@ clocked Peer connection clock = record {
   received = clock.sent;
   sent = clock.received;
   ends = ended clock.clock connection.packet connection.end clock.ends;
+  fractions = record {
+    fraction = clock.fractions.fraction;
+    begins = clock.fractions.begins;
+    received = clock.fractions.sent;
+    sent = clock.fractions.received;
+    ends = fraction_ended clock.fractions.fraction connection.end clock.fractions.ends;
+  };
 }

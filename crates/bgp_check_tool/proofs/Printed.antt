@@ -320,13 +320,13 @@ module _ (options : CheckOptions) (packets : List Recorded) (last_packet place :
 
   -- the text of a no, at the place of its verdict
   no_named : (side : Side) (told : EndTold) (end : IsEndTold options (asked side) session opening both.connection side told) (denied : IsNo told.answer) (its : Place)
-      → place_for (No denied.count) told.found end.entries ≡ its → told_lines options.routes told ≡ no_lines told its (end_of side session opening)
+      → place_for (No denied.count) told.found end.entries ≡ its → told_lines options.printing.routes told ≡ no_lines told its (end_of side session opening)
   unfolding no_lines
   no_named side told end denied its stands =
-      let text : told_lines options.routes told ≡ no_lines told told.place told.end = ap (answer_text options.routes told) denied.is in
+      let text : told_lines options.printing.routes told ≡ no_lines told told.place told.end = ap (answer_text options.printing.routes told) denied.is in
       let place : told.place ≡ its = end.is_place ∙ ap (λ (a : AnswerValue). place_of a told.found end.entries) denied.is ∙ stands in
-      subst (λ (e : Endpoint). told_lines options.routes told ≡ no_lines told its e) end.is_end
-      (subst (λ (p : Place). told_lines options.routes told ≡ no_lines told p told.end) place text)
+      subst (λ (e : Endpoint). told_lines options.printing.routes told ≡ no_lines told its e) end.is_end
+      (subst (λ (p : Place). told_lines options.printing.routes told ≡ no_lines told p told.end) place text)
 
   -- over all orders
   true_overall : NoOrderHasARun → (side : Side) (told : EndTold) (end : IsEndTold options (asked side) session opening both.connection side told) (denied : IsNo told.answer) → IsFound told.found
@@ -376,7 +376,7 @@ module _ (options : CheckOptions) (packets : List Recorded) (last_packet place :
   true_noes : NoConfigurationExplains → HasItsVerdict → NoOrderHasARun → (side : Side) (told : EndTold) → IsEndTold options (asked side) session opening both.connection side told
       → HasTrueNoes options packets last_packet session opening side told
   true_noes explains has_verdict law side told end begins =
-      let denied = no_by_text options.routes told told.answer begins.0 begins.1 in
+      let denied = no_by_text options.printing.routes told told.answer begins.0 begins.1 in
       elim (found_or_not told.found) [
         | inl none ↦ inl (true_no explains has_verdict side told end denied none)
         | inr found ↦ inr (true_overall law side told end denied found)
@@ -389,7 +389,7 @@ module _ (options : CheckOptions) (packets : List Recorded) (last_packet place :
   true_yes side told end begins =
       let its = session_from side session in
       let records = records_of end.entries in
-      let yes = yes_by_text options.routes told told.answer begins.0 begins.1 in
+      let yes = yes_by_text options.printing.routes told told.answer begins.0 begins.1 in
       let of = yes_of options (asked side) (end_of side session opening) its (seen_from side both.connection) told end yes.number yes.peer yes.under yes.ends yes.is in
       let judged : end.answer ≡ JudgedAs yes.number yes.peer yes.under (Yes yes.ends) = elim of [ inl made ↦ sym made.is_told ∙ yes.is | inr another ↦ sym another.is_told ∙ yes.is ] in
       let answer : IsJudged its records yes.number yes.peer yes.under (Yes yes.ends) = subst (λ (a : AnswerValue). IsAnswerTo its records a) judged end.answers in
@@ -403,8 +403,8 @@ module _ (options : CheckOptions) (packets : List Recorded) (last_packet place :
         has_number = end.is_number;
         peer = yes.peer;
         ends = yes.ends;
-        named = subst (λ (e : Endpoint). told_lines options.routes told ≡ yes_text options.routes told e yes.peer yes.ends) end.is_end
-            (ap (λ (a : AnswerValue). answer_text options.routes told a) yes.is);
+        named = subst (λ (e : Endpoint). told_lines options.printing.routes told ≡ yes_text options.printing.routes told e yes.peer yes.ends) end.is_end
+            (ap (λ (a : AnswerValue). answer_text options.printing.routes told a) yes.is);
         own = answer.own;
         has_own = answer.has_own;
         some = over.0;
@@ -425,16 +425,16 @@ module _ (options : CheckOptions) (packets : List Recorded) (last_packet place :
       → HasTrueUnfinished options packets last_packet session opening side told
   unfolding unfinished_lines
   true_unfinished law side told end begins =
-      let it = unfinished_by_text options.routes told told.answer begins.0 begins.1 in
-      let text : told_lines options.routes told ≡ unfinished_lines told told.place told.end = ap (λ (a : AnswerValue). answer_text options.routes told a) it.is in
+      let it = unfinished_by_text options.printing.routes told told.answer begins.0 begins.1 in
+      let text : told_lines options.printing.routes told ≡ unfinished_lines told told.place told.end = ap (λ (a : AnswerValue). answer_text options.printing.routes told a) it.is in
       let place : told.place ≡ last_place end.entries = end.is_place ∙ ap (λ (a : AnswerValue). place_of a told.found end.entries) it.is in
       record {
         entries = end.entries;
         has_records = made_records side told end it;
         number = told.as_number;
         has_number = end.is_number;
-        named = subst (λ (e : Endpoint). told_lines options.routes told ≡ unfinished_lines told (last_place end.entries) e) end.is_end
-            (subst (λ (p : Place). told_lines options.routes told ≡ unfinished_lines told p told.end) place text);
+        named = subst (λ (e : Endpoint). told_lines options.printing.routes told ≡ unfinished_lines told (last_place end.entries) e) end.is_end
+            (subst (λ (p : Place). told_lines options.printing.routes told ≡ unfinished_lines told p told.end) place text);
         verdict = verdict_in side told end it.number it.peer it.under law Unfinished it.is;
       }
 

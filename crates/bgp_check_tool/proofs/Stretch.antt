@@ -12,6 +12,8 @@ use Rattle.bgp_recording.specs.Captured.{records_of}
 use Rattle.bgp_recording.specs.Changes.{are_left, is_answered_before_open, just_received, just_sent, led_by_end, led_by_left, led_by_received, led_by_sent, opened_state, state_then}
 use Rattle.bgp_recording.specs.Recorded.{IsRecorded}
 use Rattle.bgp_recording.specs.States.{state_number}
+use Rattle.bgp_recording.specs.declared.pending.Moment.{Moment}
+use Rattle.bgp_recording.specs.Moments.{end_moment, moment_in}
 use Rattle.bgp_recording.specs.Tells.{Event, Numbered, Passed, change, items_in, numbered_in, numbered_of}
 use Rattle.bgp_recording.specs.declared.entry.Entry.{Entry}
 use Rattle.bgp_recording.specs.declared.framing.Framings.{Framings}
@@ -26,46 +28,46 @@ each_append : (xs ys : List Numbered) → Each (λ n. ¬ LeavesIdle n.shown) xs 
 each_append [] ys p q = q
 each_append (x ∷ xs) ys p q = (p.0, each_append xs ys p.1 q)
 
-not_idle : (packet second : ℕ) (state : State) (led : Option State) → state_number state ≢ 1 → Each (λ n. ¬ LeavesIdle n.shown) (change packet second state led)
-not_idle packet second state None some = tt
-not_idle packet second state (Some led) some = (λ leaves. some leaves.0, tt)
+not_idle : (moment : Moment) (second : ℕ) (state : State) (led : Option State) → state_number state ≢ 1 → Each (λ n. ¬ LeavesIdle n.shown) (change moment second state led)
+not_idle moment second state None some = tt
+not_idle moment second state (Some led) some = (λ leaves. some leaves.0, tt)
 
 -- ---- the changes to which messages and the end lead
 
-pub by_received : (packet second : ℕ) (state : State) (kind : Option MessageType) (answered : Bool)
-    → Each (λ n. ¬ LeavesIdle n.shown) (change packet second state (led_by_received state kind answered))
-by_received packet second Idle kind answered = tt
-by_received packet second Connect kind answered = not_idle packet second Connect (led_by_received Connect kind answered) (λ e. omega (arith, e))
-by_received packet second Active kind answered = not_idle packet second Active (led_by_received Active kind answered) (λ e. omega (arith, e))
-by_received packet second OpenSent kind answered = not_idle packet second OpenSent (led_by_received OpenSent kind answered) (λ e. omega (arith, e))
-by_received packet second OpenConfirm kind answered = not_idle packet second OpenConfirm (led_by_received OpenConfirm kind answered) (λ e. omega (arith, e))
-by_received packet second Established kind answered = not_idle packet second Established (led_by_received Established kind answered) (λ e. omega (arith, e))
+pub by_received : (moment : Moment) (second : ℕ) (state : State) (kind : Option MessageType) (answered : Bool)
+    → Each (λ n. ¬ LeavesIdle n.shown) (change moment second state (led_by_received state kind answered))
+by_received moment second Idle kind answered = tt
+by_received moment second Connect kind answered = not_idle moment second Connect (led_by_received Connect kind answered) (λ e. omega (arith, e))
+by_received moment second Active kind answered = not_idle moment second Active (led_by_received Active kind answered) (λ e. omega (arith, e))
+by_received moment second OpenSent kind answered = not_idle moment second OpenSent (led_by_received OpenSent kind answered) (λ e. omega (arith, e))
+by_received moment second OpenConfirm kind answered = not_idle moment second OpenConfirm (led_by_received OpenConfirm kind answered) (λ e. omega (arith, e))
+by_received moment second Established kind answered = not_idle moment second Established (led_by_received Established kind answered) (λ e. omega (arith, e))
 
-pub by_sent : (packet second : ℕ) (state : State) (kind : Option MessageType) (before : Before)
-    → Each (λ n. ¬ LeavesIdle n.shown) (change packet second state (led_by_sent state kind before))
-by_sent packet second Idle kind before = tt
-by_sent packet second Connect kind before = not_idle packet second Connect (led_by_sent Connect kind before) (λ e. omega (arith, e))
-by_sent packet second Active kind before = not_idle packet second Active (led_by_sent Active kind before) (λ e. omega (arith, e))
-by_sent packet second OpenSent kind before = not_idle packet second OpenSent (led_by_sent OpenSent kind before) (λ e. omega (arith, e))
-by_sent packet second OpenConfirm kind before = not_idle packet second OpenConfirm (led_by_sent OpenConfirm kind before) (λ e. omega (arith, e))
-by_sent packet second Established kind before = not_idle packet second Established (led_by_sent Established kind before) (λ e. omega (arith, e))
+pub by_sent : (moment : Moment) (second : ℕ) (state : State) (kind : Option MessageType) (before : Before)
+    → Each (λ n. ¬ LeavesIdle n.shown) (change moment second state (led_by_sent state kind before))
+by_sent moment second Idle kind before = tt
+by_sent moment second Connect kind before = not_idle moment second Connect (led_by_sent Connect kind before) (λ e. omega (arith, e))
+by_sent moment second Active kind before = not_idle moment second Active (led_by_sent Active kind before) (λ e. omega (arith, e))
+by_sent moment second OpenSent kind before = not_idle moment second OpenSent (led_by_sent OpenSent kind before) (λ e. omega (arith, e))
+by_sent moment second OpenConfirm kind before = not_idle moment second OpenConfirm (led_by_sent OpenConfirm kind before) (λ e. omega (arith, e))
+by_sent moment second Established kind before = not_idle moment second Established (led_by_sent Established kind before) (λ e. omega (arith, e))
 
-pub by_end : (packet second : ℕ) (state : State) → Each (λ n. ¬ LeavesIdle n.shown) (change packet second state (led_by_end state))
-by_end packet second Idle = tt
-by_end packet second Connect = not_idle packet second Connect (led_by_end Connect) (λ e. omega (arith, e))
-by_end packet second Active = not_idle packet second Active (led_by_end Active) (λ e. omega (arith, e))
-by_end packet second OpenSent = not_idle packet second OpenSent (led_by_end OpenSent) (λ e. omega (arith, e))
-by_end packet second OpenConfirm = not_idle packet second OpenConfirm (led_by_end OpenConfirm) (λ e. omega (arith, e))
-by_end packet second Established = not_idle packet second Established (led_by_end Established) (λ e. omega (arith, e))
+pub by_end : (moment : Moment) (second : ℕ) (state : State) → Each (λ n. ¬ LeavesIdle n.shown) (change moment second state (led_by_end state))
+by_end moment second Idle = tt
+by_end moment second Connect = not_idle moment second Connect (led_by_end Connect) (λ e. omega (arith, e))
+by_end moment second Active = not_idle moment second Active (led_by_end Active) (λ e. omega (arith, e))
+by_end moment second OpenSent = not_idle moment second OpenSent (led_by_end OpenSent) (λ e. omega (arith, e))
+by_end moment second OpenConfirm = not_idle moment second OpenConfirm (led_by_end OpenConfirm) (λ e. omega (arith, e))
+by_end moment second Established = not_idle moment second Established (led_by_end Established) (λ e. omega (arith, e))
 
-pub by_left : (packet second : ℕ) (state : State) (left : Bool)
-    → Each (λ n. ¬ LeavesIdle n.shown) (change packet second (state_then state (led_by_end state)) (led_by_left state left))
-by_left packet second Idle left = tt
-by_left packet second Connect left = tt
-by_left packet second Active left = tt
-by_left packet second OpenSent left = not_idle packet second Active (led_by_left OpenSent left) (λ e. omega (arith, e))
-by_left packet second OpenConfirm left = tt
-by_left packet second Established left = tt
+pub by_left : (moment : Moment) (second : ℕ) (state : State) (left : Bool)
+    → Each (λ n. ¬ LeavesIdle n.shown) (change moment second (state_then state (led_by_end state)) (led_by_left state left))
+by_left moment second Idle left = tt
+by_left moment second Connect left = tt
+by_left moment second Active left = tt
+by_left moment second OpenSent left = not_idle moment second Active (led_by_left OpenSent left) (λ e. omega (arith, e))
+by_left moment second OpenConfirm left = tt
+by_left moment second Established left = tt
 
 -- ---- the records
 
@@ -75,22 +77,22 @@ none_leaves state before (Passed second (Received m) ∷ later) =
     let answered = is_answered_before_open m.kind (sent_in (items_in later)) in
     let led = led_by_received state m.kind answered in (
       λ leaves. leaves,
-      each_append (change m.packet second state led) (numbered_in (state_then state led) (just_received m.kind) later)
-          (by_received m.packet second state m.kind answered) (none_leaves (state_then state led) (just_received m.kind) later),
+      each_append (change (moment_in m) second state led) (numbered_in (state_then state led) (just_received m.kind) later)
+          (by_received (moment_in m) second state m.kind answered) (none_leaves (state_then state led) (just_received m.kind) later),
     )
 none_leaves state before (Passed second (Sent m) ∷ later) =
     let led = led_by_sent state m.kind before in (
       λ leaves. leaves,
-      each_append (change m.packet second state led) (numbered_in (state_then state led) (just_sent state m.kind before) later)
-          (by_sent m.packet second state m.kind before) (none_leaves (state_then state led) (just_sent state m.kind before) later),
+      each_append (change (moment_in m) second state led) (numbered_in (state_then state led) (just_sent state m.kind before) later)
+          (by_sent (moment_in m) second state m.kind before) (none_leaves (state_then state led) (just_sent state m.kind before) later),
     )
 none_leaves state before (Passed second (Ended e) ∷ later) =
     let ended = state_then state (led_by_end state) in
     let more = are_left (received_in (items_in later)) in
     let left = led_by_left state more in
-    each_append (change e.packet second state (led_by_end state)) (change e.packet second ended left ++ numbered_in (state_then ended left) Other later)
-    (by_end e.packet second state)
-    (each_append (change e.packet second ended left) (numbered_in (state_then ended left) Other later) (by_left e.packet second state more)
+    each_append (change (end_moment e) second state (led_by_end state)) (change (end_moment e) second ended left ++ numbered_in (state_then ended left) Other later)
+    (by_end (end_moment e) second state)
+    (each_append (change (end_moment e) second ended left) (numbered_in (state_then ended left) Other later) (by_left (end_moment e) second state more)
     (none_leaves (state_then ended left) Other later))
 
 at_most : (ns : List Numbered) → Each (λ n. ¬ LeavesIdle n.shown) ns → AtMostTheLastLeaves (map (λ (n : Numbered). n.shown) ns)

@@ -2,6 +2,7 @@
 use Rattle.std.proofs.Common.{◌≡◌, ◌∙◌, ◌⊎◌, ℕ, Bool, IsFalse, IsTrue, inl, inr, refl}
 use Rattle.bgp_prefix.specs.declared.session.Session.{Session}
 use Rattle.streams.specs.declared.connection.Opening.{Opening}
+use Rattle.bgp_check_text.specs.declared.quiet.Printing.{Printing}
 use Rattle.bgp_check_tool.specs.Blocks.{block_text, ends_block, ends_text}
 use Rattle.bgp_check_tool.specs.declared.connection.EndsTold.{EndsTold}
 use Rattle.bgp_check_tool.specs.declared.connection.EndsTold.TheVariants.{Both, One}
@@ -18,7 +19,7 @@ coded_as failed code status wanted is (inl calm) = inl (calm.0, is ∙ calm.1)
 coded_as failed code status wanted is (inr broken) = inr (broken.0, is ∙ broken.1)
 
 -- the text of a connection that isn't refused
-pub text_of_ends : {X : Type 0} (routes : Bool) (session : Session) (opening : Opening) (told : EndsTold X)
-    → ends_text routes session opening told ≡ block_text routes (ends_block session opening told)
-text_of_ends routes session opening (Both both) = refl
-text_of_ends routes session opening (One first second) = refl
+pub text_of_ends : {X : Type 0} (printing : Printing) (session : Session) (opening : Opening) (told : EndsTold X)
+    → ends_text printing session opening told ≡ block_text printing (ends_block session opening told)
+text_of_ends printing session opening (Both both) = refl
+text_of_ends printing session opening (One first second) = refl

@@ -7,9 +7,11 @@ use Rattle.mrt.specs.Reader.{shown_of}
 use Rattle.mrt.specs.declared.record.Record.TheVariants.{In, Out}
 use Rattle.bgp_recording.specs.Allowed.{Ended, Item, Received, Sent, received_in, sent_in}
 use Rattle.bgp_recording.specs.Changes.{are_left, is_answered_before_open, just_received, just_sent, led_by_end, led_by_left, led_by_received, led_by_sent, state_then}
+use Rattle.bgp_recording.specs.Moments.{end_moment, moment_in}
 use Rattle.bgp_recording.specs.States.{state_number}
 use Rattle.bgp_recording.specs.Tells.{Event, Passed, change, items_in}
 use Rattle.bgp_recording.specs.declared.message.Message.{Message}
+use Rattle.bgp_recording.specs.declared.pending.Moment.{Moment}
 use Rattle.bgp_recording.specs.declared.standing.Before.{Before}
 use Rattle.bgp_recording.specs.declared.standing.Before.TheVariants.{Other}
 use Rattle.bgp_recording.specs.declared.state.State.{State}
@@ -137,9 +139,9 @@ join : (xs ys : List ShownRecord) → Each Stays xs → Each Stays ys → Each S
 join [] ys p q = q
 join (x ∷ xs) ys p q = (p.0, join xs ys p.1 q)
 
-as_shown : (second : ℕ) (state : State) (led : Option State) → Each (λ n. ¬ LeavesIdle n.shown) (change 0 second state led) → Each Stays (changed_to second state led)
-as_shown second state None each = tt
-as_shown second state (Some led) each = each
+as_shown : (moment : Moment) (second : ℕ) (state : State) (led : Option State) → Each (λ n. ¬ LeavesIdle n.shown) (change moment second state led) → Each Stays (changed_to second state led)
+as_shown moment second state None each = tt
+as_shown moment second state (Some led) each = each
 
 none_leaves : (state : State) (before : Before) (front later : List Event) → Each Stays (records_in state before front later)
 none_leaves state before [] later = tt
@@ -148,20 +150,20 @@ none_leaves state before (Passed second (Received m) ∷ front) later =
     let led = led_by_received state m.kind answered in (
       λ leaves. leaves,
       join (changed_to second state led) (records_in (state_then state led) (just_received m.kind) front later)
-          (as_shown second state led (by_received 0 second state m.kind answered)) (none_leaves (state_then state led) (just_received m.kind) front later),
+          (as_shown (moment_in m) second state led (by_received (moment_in m) second state m.kind answered)) (none_leaves (state_then state led) (just_received m.kind) front later),
     )
 none_leaves state before (Passed second (Sent m) ∷ front) later =
     let led = led_by_sent state m.kind before in (
       λ leaves. leaves,
       join (changed_to second state led) (records_in (state_then state led) (just_sent state m.kind before) front later)
-          (as_shown second state led (by_sent 0 second state m.kind before)) (none_leaves (state_then state led) (just_sent state m.kind before) front later),
+          (as_shown (moment_in m) second state led (by_sent (moment_in m) second state m.kind before)) (none_leaves (state_then state led) (just_sent state m.kind before) front later),
     )
 none_leaves state before (Passed second (Ended e) ∷ front) later =
     let left = are_left (received_in (items_in (front ++ later))) in
     join (end_records second state left) (records_in (state_after_end state left) Other front later)
     (join (changed_to second state (led_by_end state)) (changed_to second (state_then state (led_by_end state)) (led_by_left state left))
-    (as_shown second state (led_by_end state) (by_end 0 second state))
-    (as_shown second (state_then state (led_by_end state)) (led_by_left state left) (by_left 0 second state left)))
+    (as_shown (end_moment e) second state (led_by_end state) (by_end (end_moment e) second state))
+    (as_shown (end_moment e) second (state_then state (led_by_end state)) (led_by_left state left) (by_left (end_moment e) second state left)))
     (none_leaves (state_after_end state left) Other front later)
 
 at_most : (records : List ShownRecord) → Each Stays records → AtMostTheLastLeaves records

@@ -1,6 +1,7 @@
 -- What is told of a recording: connection by connection, and of two addresses at once where none of
 -- their connections can be told.
-use Rattle.std.specs.Prelude.{◌≡◌, ◌⊎◌, ◌++◌, ℕ, Bool, List, Option, None, Some, Result, Ok, Err}
+use Rattle.std.specs.Prelude.{◌≡◌, ◌⊎◌, ◌++◌, ◌&&◌, ℕ, Bool, List, [], Option, None, Some}
+use Rattle.std.specs.Prelude.{Result, Ok, Err, if◌then◌else◌}
 use Rattle.bgp_prefix.specs.declared.session.Session.{Session}
 use Rattle.segments.specs.declared.found.Addresses.{Addresses}
 use Rattle.streams.specs.Choice.{IsAnswered, IsRefused}
@@ -21,6 +22,8 @@ use Rattle.bgp_check_text.specs.Asked.{asked_of}
 use Rattle.bgp_check_text.specs.declared.options.Asked.{Asked}
 use Rattle.bgp_check_tool.specs.declared.connection.EndsTold.{EndsTold}
 use Rattle.bgp_check_tool.specs.declared.connection.EndsTold.TheVariants as ends
+use Rattle.bgp_check_text.specs.Quiet.{is_left_out}
+use Rattle.bgp_check_text.specs.declared.quiet.Printing.{Printing}
 use Rattle.bgp_check_tool.specs.declared.options.CheckOptions.{CheckOptions}
 use Rattle.bgp_check_tool.specs.Text.{one_end_line, told_lines}
 use Rattle.bgp_check_tool.specs.Told.{EndTold, IsEndTold, told_value}
@@ -38,23 +41,35 @@ pub data Block : Type 0 where
 
 -- ---- the text
 
-abbrev pub both_text : Bool → EndTold → EndTold → List ℕ
-both_text routes opener other = told_lines routes opener ++ told_lines routes other
+-- the lines of an end that is told, and none of one that is left out
+abbrev pub kept_lines : Printing → EndTold → List ℕ
+kept_lines printing told =
+    if is_left_out printing.quiet told.answer then [] else told_lines printing.routes told
+
+abbrev pub both_text : Printing → EndTold → EndTold → List ℕ
+both_text printing opener other = kept_lines printing opener ++ kept_lines printing other
+
+-- no end of two is told
+abbrev pub are_left_out : Printing → EndTold → EndTold → Bool
+are_left_out printing opener other =
+    is_left_out printing.quiet opener.answer && is_left_out printing.quiet other.answer
 
 abbrev pub neither_text : Session → Opening → List ℕ
 neither_text session opening =
     one_end_line (end_of opening.opened_by session opening)
     ++ one_end_line (end_of (other_side opening.opened_by) session opening)
 
--- the lines of a list, each with those of its ends
-abbrev pub block_text : Bool → Block → List ℕ
-block_text routes (BothEnds session opening first second opener other) =
-    connection_text session opening first second ++ both_text routes opener other
-block_text routes (OneEnd session opening first second) =
-    connection_text session opening first second ++ neither_text session opening
-block_text routes (Refused session opening refusal) =
+-- the lines of a list, each with those of its ends; none of a connection whose ends are left out
+abbrev pub block_text : Printing → Block → List ℕ
+block_text printing (BothEnds session opening first second opener other) =
+    if are_left_out printing opener other then []
+    else connection_text session opening first second ++ both_text printing opener other
+block_text printing (OneEnd session opening first second) =
+    if printing.quiet then []
+    else connection_text session opening first second ++ neither_text session opening
+block_text printing (Refused session opening refusal) =
     refused_connection_text session opening refusal
-block_text routes (AllRefused addresses refusal) = refused_between_text addresses refusal
+block_text printing (AllRefused addresses refusal) = refused_between_text addresses refusal
 
 -- ---- what is told of a connection
 
@@ -126,12 +141,8 @@ ends_block session opening (ends.Both both) =
     (told_value both.opener) (told_value both.other)
 ends_block session opening (ends.One first second) = OneEnd session opening first second
 
-abbrev pub ends_text : {X : Type 0} → Bool → Session → Opening → EndsTold X → List ℕ
-ends_text routes session opening (ends.Both both) =
-    connection_text session opening both.opener_octets both.other_octets
-    ++ both_text routes (told_value both.opener) (told_value both.other)
-ends_text routes session opening (ends.One first second) =
-    connection_text session opening first second ++ neither_text session opening
+abbrev pub ends_text : {X : Type 0} → Printing → Session → Opening → EndsTold X → List ℕ
+ends_text printing session opening told = block_text printing (ends_block session opening told)
 
 -- the refusal in a block, if there is one
 abbrev pub refusal_in : Block → Option Refusal

@@ -16,7 +16,8 @@ use Rattle.bgp_import.specs.declared.cut_short.CutShort.{CutShort}
 use Rattle.bgp_import.specs.declared.refusal.Refusal.{Refusal}
 use Rattle.bgp_import.specs.declared.refusal.Refusal.TheVariants as refusals
 use Rattle.bgp_check_text.specs.Tally.{has_verdict, is_empty, is_incomplete, no_tally, status_of}
-use Rattle.bgp_check_text.specs.Tally.{tally_line}
+use Rattle.bgp_check_text.specs.Tally.{last_text}
+use Rattle.bgp_check_text.specs.declared.quiet.Printing.{Printing}
 use Rattle.bgp_check_text.specs.declared.tally.Tally.{Tally}
 use Rattle.bgp_check_tool.specs.declared.nothing.NothingJudged.{NothingJudged}
 use Rattle.bgp_check_tool.specs.declared.options.CheckOptions.{CheckOptions}
@@ -33,8 +34,8 @@ use Rattle.bgp_import.specs.Talks.{HoldsEach}
 
 -- ---- the blocks, each with the packet at which it stands
 
-abbrev pub blocks_text : Bool → List (ℕ × Block) → List ℕ
-blocks_text routes blocks = flat_map (λ (b : ℕ × Block). block_text routes b.1) blocks
+abbrev pub blocks_text : Printing → List (ℕ × Block) → List ℕ
+blocks_text printing blocks = flat_map (λ (b : ℕ × Block). block_text printing b.1) blocks
 
 abbrev pub tally_from : Tally → List (ℕ × Block) → Tally
 tally_from tally [] = tally
@@ -50,7 +51,7 @@ pub record PutsBlock {T : Type 0} {sink : sinks.Ghosts T} (options : CheckOption
     (tally tally' : Tally) (firsts firsts' : List (Option Refusal)) : Type 0 where
   pub block : Block
   pub told : IsToldAt options packets last_packet place block
-  pub wrote : Writes lines lines' (block_text options.routes block)
+  pub wrote : Writes lines lines' (block_text options.printing block)
   pub tallied : tally' ≡ with_block tally block
   pub added : firsts' ≡ with_first firsts (refusal_in block)
 
@@ -63,7 +64,7 @@ pub record PutsBlocks {T : Type 0} {sink : sinks.Ghosts T} (options : CheckOptio
   pub told : AllByRecursion
       (λ (b : ℕ × Block). IsToldAt options packets last_packet b.0 b.1) blocks
   pub are_places : keys_of blocks ≡ places
-  pub wrote : Writes lines lines' (blocks_text options.routes blocks)
+  pub wrote : Writes lines lines' (blocks_text options.printing blocks)
   pub tallied : tally' ≡ tally_from tally blocks
   pub added : firsts' ≡ firsts_after firsts (refusals_in blocks)
 
@@ -88,10 +89,11 @@ abbrev pub file_text : Option Refusal → List ℕ
 file_text None = []
 file_text (Some refusal) = refused_text refusal
 
--- that the file was cut short, where it was
-abbrev pub cut_note : Option CutShort → List ℕ
-cut_note None = []
-cut_note (Some cut) =
+-- that the file was cut short, where it was; left out with all that is well
+abbrev pub cut_note : Bool → Option CutShort → List ℕ
+cut_note quiet None = []
+cut_note true (Some cut) = []
+cut_note false (Some cut) =
     codes "note: the recording is cut short in packet " ++ (decimal (cut.before + 1) ++ codes "\n")
 
 abbrev pub with_file : Tally → Option Refusal → Tally
@@ -155,7 +157,7 @@ pub record ChecksRecording {S T : Type 0} (gives : S → S → List ℕ → Type
       ≡ with_first (with_first (firsts_after [] (refusals_in blocks)) stopped) lacking
   pub is_nothing : nothing ≡ nothing_by options.port tally refusal
   pub written : IsWritten takes failures
-      (blocks_text options.routes blocks
-      ++ (file_text stopped ++ (file_text lacking ++ (cut_note cut_short
-      ++ (nothing_text options.port tally ++ tally_line tally)))))
+      (blocks_text options.printing blocks
+      ++ (file_text stopped ++ (file_text lacking ++ (cut_note options.printing.quiet cut_short
+      ++ (nothing_text options.port tally ++ last_text options.printing.quiet tally)))))
       (status_of tally) sink sink' status

@@ -1,5 +1,5 @@
 -- What is printed of a recording, without the lines of its ends: its list.
-use Rattle.std.specs.Prelude.{◌≡◌, ◌≢◌, ◌++◌, ℕ, Bool, List, [], map}
+use Rattle.std.specs.Prelude.{◌≡◌, ◌≢◌, ◌++◌, ℕ, Bool, false, List, [], map}
 use Rattle.std.specs.List.{AllByRecursion, Contains, flat_map}
 use Rattle.std.specs.List.Sorted.{IsStrictlySortedBy}
 use Rattle.std.specs.Map.{keys_of}
@@ -13,6 +13,7 @@ use Rattle.bgp_list.specs.Lines.{IsLineAt, line_text}
 use Rattle.bgp_list.specs.Recording.{lines_text}
 use Rattle.bgp_list.specs.declared.line.Line.{Line}
 use Rattle.bgp_list.specs.declared.line.Line.TheVariants as lines
+use Rattle.bgp_check_text.specs.declared.quiet.Printing.{Printing}
 use Rattle.bgp_check_tool.specs.declared.options.CheckOptions.{CheckOptions}
 use Rattle.bgp_check_tool.specs.Blocks.{AllRefused, Block, BothEnds, OneEnd, Refused}
 use Rattle.bgp_check_tool.specs.Checking.{blocks_text}
@@ -68,12 +69,13 @@ pub record IsTheList (port : ℕ) (packets : List Recorded) (last_packet : ℕ)
 
 -- ---- the laws
 
--- What is printed of a recording are these lines, block by block. And each first line is one that a
--- list of the recording has, at the same place.
-pub record PrintsListLines (routes : Bool) (port : ℕ) (packets : List Recorded) (last_packet : ℕ)
-    (blocks : List (ℕ × Block)) : Type 0 where
-  pub is_text : blocks_text routes blocks
-      ≡ flat_map (λ (b : ℕ × Block). line_text (heading b.1) ++ end_lines routes b.1) blocks
+-- Where nothing is left out, what is printed of a recording are these lines, block by block. And each
+-- first line is one that a list of the recording has, at the same place.
+pub record PrintsListLines (printing : Printing) (port : ℕ) (packets : List Recorded)
+    (last_packet : ℕ) (blocks : List (ℕ × Block)) : Type 0 where
+  pub is_text : blocks_text printing blocks
+      ≡ flat_map (λ (b : ℕ × Block). line_text (heading b.1) ++ end_lines printing.routes b.1)
+      blocks
   pub are_lines : AllByRecursion
       (λ (l : ℕ × Line). IsLineAt port packets last_packet l.0 l.1) (headings blocks)
   pub are_places : keys_of (headings blocks) ≡ keys_of blocks
@@ -85,7 +87,8 @@ ListIsWithoutEnds =
     → AllByRecursion
     (λ (b : ℕ × Block). IsToldAt options packets last_packet b.0 b.1) blocks
     → AllByRecursion (λ (b : ℕ × Block). HasMemory last_packet b.1) blocks
-    → PrintsListLines options.routes options.port packets last_packet blocks
+    → options.printing.quiet ≡ false
+    → PrintsListLines options.printing options.port packets last_packet blocks
 
 -- The first lines are the list of the recording, if the blocks stand at all packets at which there
 -- is something to list, in their order.

@@ -13,6 +13,7 @@ pub mod Counted
 pub mod Places
 pub mod Checking
 pub mod Headings
+pub mod Quiet
 pub mod Headline
 pub mod Repeated
 pub mod Alone

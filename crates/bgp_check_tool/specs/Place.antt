@@ -1,10 +1,10 @@
--- Where a record of a recording stands: the packet that shows it, and its second.
+-- Where a record of a recording stands: the packet that shows it, and the time of that.
 use Rattle.std.specs.Prelude.{◌+◌, ◌-◌, ◌==◌, ◌&&◌, ℕ, Bool, true, false, List, Option, None, Some}
 use Rattle.std.specs.Prelude.{count_by, length, option_map, slice_get, take, unwrap_or}
 use Rattle.bgp_prefix.specs.Shown.{Changed, Received, Sent, ShownRecord, second_of}
 use Rattle.mrt.specs.Reader.{shown_of}
 use Rattle.bgp_recording.specs.declared.entry.Entry.{Entry}
-use Rattle.bgp_explain.specs.Places.{place_with}
+use Rattle.bgp_explain.specs.Places.{entry_place, place_with}
 use Rattle.bgp_why.specs.declared.place.Place.{Place}
 use Rattle.bgp_check_tool.specs.declared.orders.NoOrder.{NoOrder}
 
@@ -16,9 +16,8 @@ second_at entries count =
 
 -- where the record after so many stands; nowhere if there is none
 abbrev pub place_by : ℕ → Option Entry → Place
-place_by count None = place_with 0 None 0
-place_by count (Some entry) =
-    place_with (count + 1) (Some entry.packet) (second_of (shown_of entry.«record»))
+place_by count None = place_with 0 0
+place_by count (Some entry) = entry_place (count + 1) entry
 
 abbrev pub place_at : List Entry → ℕ → Place
 place_at entries count = place_by count (slice_get entries count)
@@ -31,8 +30,12 @@ last_place entries = place_at entries (length entries - 1)
 
 -- it stands at the packet that is the first to show it, whichever number its record has
 abbrev pub sent_place : NoOrder → Place
-sent_place found =
-    place_with 0 (Some found.unexplained.packet) found.message.second
+sent_place found = record {
+  number = 0;
+  packet = Some found.unexplained.packet;
+  second = found.message.second;
+  micro = found.message.micro;
+}
 
 abbrev pub is_sent : ShownRecord → Bool
 is_sent (Received second octets) = false

@@ -30,7 +30,7 @@ use Rattle.bgp_check.specs.Over.{HasVerdictOver, ListsEndsOver}
 use Rattle.bgp_check.specs.WidestMade.{IsFaultless}
 use Rattle.bgp_check.specs.declared.own_fault.OwnFault.{OwnFault}
 use Rattle.bgp_check.specs.declared.peer_as.PeerAs.{PeerAs}
-use Rattle.bgp_check_text.specs.Tally.{status_of, tally_line}
+use Rattle.bgp_check_text.specs.Tally.{last_text, status_of}
 use Rattle.bgp_check_text.specs.AsNumber.{HasAsNumber}
 use Rattle.bgp_check_text.specs.Text.{no_line, unfinished_line, yes_lines}
 use Rattle.bgp_check_text.specs.declared.tally.Tally.{Tally}
@@ -182,7 +182,7 @@ pub record IsTrueNo (options : CheckOptions) (packets : List Recorded) (last_pac
   pub not_found : told.found ≡ None
   pub number : Option ℕ
   pub has_number : HasAsNumber (records_of entries) number
-  pub named : told_lines options.routes told
+  pub named : told_lines options.printing.routes told
       ≡ no_line (place_at entries count) (name_with (end_of side session opening) number)
       (deed_by told.deed told.other) ++ after_no told
   pub none : (own : Option (List ℕ)) (config : Config) → HasOwnOpen (records_of entries) own
@@ -208,7 +208,7 @@ pub record IsTrueOverall (options : CheckOptions) (packets : List Recorded) (las
   pub is_found : told.found ≡ Some found
   pub number : Option ℕ
   pub has_number : HasAsNumber (records_of entries) number
-  pub named : told_lines options.routes told
+  pub named : told_lines options.printing.routes told
       ≡ no_line (sent_place found) (name_with (end_of side session opening) number)
       (deed_by told.deed told.other) ++ after_no told
   pub no_order : NoOrderExplains (session_from side session) options.within
@@ -219,7 +219,7 @@ pub record IsTrueOverall (options : CheckOptions) (packets : List Recorded) (las
 abbrev pub HasTrueNoes : CheckOptions → List Recorded → ℕ → Session → Opening → Side → EndTold
     → Type 0
 HasTrueNoes options packets last_packet session opening side told =
-    BeginWith (codes "no ") options.routes told
+    BeginWith (codes "no ") options.printing.routes told
     → IsTrueNo options packets last_packet session opening side told
     ⊎ IsTrueOverall options packets last_packet session opening side told
 
@@ -247,8 +247,8 @@ pub record IsTrueYes (options : CheckOptions) (packets : List Recorded) (last_pa
   pub has_number : HasAsNumber (records_of entries) number
   pub peer : PeerAs
   pub ends : List End
-  pub named : told_lines options.routes told
-      ≡ yes_lines options.routes (name_with (end_of side session opening) number) peer
+  pub named : told_lines options.printing.routes told
+      ≡ yes_lines options.printing.routes (name_with (end_of side session opening) number) peer
       told.highest ends ++ after_yes told
   pub own : Option (List ℕ)
   pub has_own : HasOwnOpen (records_of entries) own
@@ -259,7 +259,7 @@ pub record IsTrueYes (options : CheckOptions) (packets : List Recorded) (last_pa
 abbrev pub HasTrueYes : CheckOptions → List Recorded → ℕ → Session → Opening → Side → EndTold
     → Type 0
 HasTrueYes options packets last_packet session opening side told =
-    BeginWith (codes "yes") options.routes told
+    BeginWith (codes "yes") options.printing.routes told
     → IsTrueYes options packets last_packet session opening side told
 
 -- so it is of both ends of a connection
@@ -282,7 +282,7 @@ pub record IsTrueUnfinished (options : CheckOptions) (packets : List Recorded) (
   pub has_records : HasRecords options packets last_packet session opening side entries
   pub number : Option ℕ
   pub has_number : HasAsNumber (records_of entries) number
-  pub named : told_lines options.routes told
+  pub named : told_lines options.printing.routes told
       ≡ unfinished_line (last_place entries) (name_with (end_of side session opening) number)
       ++ after_unfinished told
   pub verdict : HasVerdictIn told.order options packets last_packet session opening side
@@ -292,7 +292,7 @@ pub record IsTrueUnfinished (options : CheckOptions) (packets : List Recorded) (
 abbrev pub HasTrueUnfinished : CheckOptions → List Recorded → ℕ → Session → Opening → Side
     → EndTold → Type 0
 HasTrueUnfinished options packets last_packet session opening side told =
-    BeginWith (codes "unfinished") options.routes told
+    BeginWith (codes "unfinished") options.printing.routes told
     → IsTrueUnfinished options packets last_packet session opening side told
 
 -- so it is of both ends of a connection
@@ -329,9 +329,9 @@ pub record PrintsTrue {S T : Type 0} (AreTrue : CheckOptions → List Recorded �
     pub lacking : Option Refusal
     pub tally : Tally
     pub written : IsWritten takes failures
-        (blocks_text options.routes blocks
-        ++ (file_text stopped ++ (file_text lacking ++ (cut_note cut_short
-        ++ (nothing_text options.port tally ++ tally_line tally)))))
+        (blocks_text options.printing blocks
+        ++ (file_text stopped ++ (file_text lacking ++ (cut_note options.printing.quiet cut_short
+        ++ (nothing_text options.port tally ++ last_text options.printing.quiet tally)))))
         (status_of tally) sink sink' status
 
 -- ---- the laws

@@ -2,12 +2,15 @@
 
 ghost use Rattle.std.specs.Prelude.{◌≡◌};
 ghost use Rattle.bgp_text.specs.Lines.{Writes};
-ghost use Rattle.bgp_check_tool.specs.Blocks.{block_of, block_text, both_text};
-ghost use Rattle.bgp_check_tool.specs.Blocks.{ends_text, neither_text};
+ghost use Rattle.bgp_check_tool.specs.Blocks.{BothEnds, OneEnd};
+ghost use Rattle.bgp_check_tool.specs.Blocks.{are_left_out, block_of, block_text, both_text};
+ghost use Rattle.bgp_check_tool.specs.Blocks.{ends_text, kept_lines, neither_text};
 ghost use Rattle.bgp_check_tool.specs.Told.{told_value};
 
 use crate::connection::{BothTold, EndsTold};
+use crate::ending::Told;
 use crate::lines::{put_one_end, put_told};
+use bgp_check_text::{Printing, is_left_out};
 use bgp_import::{Refusal, end_of, other_side};
 use bgp_list::{put_connection, put_refused_connection};
 use bgp_prefix::Session;
@@ -16,13 +19,37 @@ use mrt::Sink;
 use std::alloc::Allocator;
 use streams::Opening;
 
-/// The lines of both ends of a connection.
-fn put_both<W: Sink, A: Allocator>(lines: &mut Lines<'_, W>, both: &BothTold<'_, A>, routes: bool)
-    ensures { Writes lines.old lines.new
-        (both_text routes (told_value both.now.opener) (told_value both.now.other)) }
+/// The lines of an end, unless it is left out.
+fn put_kept<W: Sink, A: Allocator>(lines: &mut Lines<'_, W>, told: &Told<'_, A>, printing: Printing)
+    ensures { Writes lines.old lines.new (kept_lines printing (told_value told.now)) }
 {
-    put_told(lines, &both.opener, routes);
-    put_told(lines, &both.other, routes);
+    if is_left_out(printing.quiet, &told.answer) {
+        lines.put(b"");
+    } else {
+        put_told(lines, told, printing.routes);
+    }
+}
+
+/// The lines of both ends of a connection.
+fn put_both<W: Sink, A: Allocator>(
+    lines: &mut Lines<'_, W>,
+    both: &BothTold<'_, A>,
+    printing: Printing,
+)
+    ensures { Writes lines.old lines.new
+        (both_text printing (told_value both.now.opener) (told_value both.now.other)) }
+{
+    put_kept(lines, &both.opener, printing);
+    put_kept(lines, &both.other, printing);
+}
+
+/// Whether neither end of a connection is told.
+fn are_left_out<A: Allocator>(both: &BothTold<'_, A>, printing: Printing) -> bool
+    ensures { result
+        ≡ are_left_out printing (told_value both.now.opener) (told_value both.now.other) }
+{
+    is_left_out(printing.quiet, &both.opener.answer)
+        && is_left_out(printing.quiet, &both.other.answer)
 }
 
 /// The lines of the ends of a connection whose two ends are one.
@@ -34,25 +61,62 @@ fn put_neither<W: Sink>(lines: &mut Lines<'_, W>, session: &Session, opening: Op
     put_one_end(lines, end_of(other_side(from), session, opening));
 }
 
+/// The lines of a connection with both ends, unless neither is told.
+fn put_both_block<W: Sink, A: Allocator>(
+    lines: &mut Lines<'_, W>,
+    session: &Session,
+    opening: Opening,
+    both: &BothTold<'_, A>,
+    printing: Printing,
+)
+    ensures { Writes lines.old lines.new (block_text printing (BothEnds session.now opening
+        both.now.opener_octets both.now.other_octets (told_value both.now.opener)
+        (told_value both.now.other))) }
+{
+    if are_left_out(both, printing) {
+        lines.put(b"");
+    } else {
+        let (first, second) = (both.opener_octets, both.other_octets);
+        put_connection(lines, session, opening, first, second);
+        put_both(lines, both, printing);
+    }
+}
+
+/// The lines of a connection whose two ends are one, by how many octets either sent, unless they
+/// are left out.
+fn put_one_block<W: Sink>(
+    lines: &mut Lines<'_, W>,
+    session: &Session,
+    opening: Opening,
+    first: usize,
+    second: usize,
+    printing: Printing,
+)
+    ensures { Writes lines.old lines.new
+        (block_text printing (OneEnd session.now opening first second)) }
+{
+    if printing.quiet {
+        lines.put(b"");
+    } else {
+        put_connection(lines, session, opening, first, second);
+        put_neither(lines, session, opening);
+    }
+}
+
 /// The lines of a connection that isn't refused.
 fn put_ends<W: Sink, A: Allocator>(
     lines: &mut Lines<'_, W>,
     session: &Session,
     opening: Opening,
     told: &EndsTold<'_, A>,
-    routes: bool,
+    printing: Printing,
 )
-    ensures { Writes lines.old lines.new (ends_text routes session.now opening told.now) }
+    ensures { Writes lines.old lines.new (ends_text printing session.now opening told.now) }
 {
     match told {
-        EndsTold::Both(both) => {
-            let (first, second) = (both.opener_octets, both.other_octets);
-            put_connection(lines, session, opening, first, second);
-            put_both(lines, both, routes);
-        }
+        EndsTold::Both(both) => put_both_block(lines, session, opening, both, printing),
         EndsTold::One(first, second) => {
-            put_connection(lines, session, opening, *first, *second);
-            put_neither(lines, session, opening);
+            put_one_block(lines, session, opening, *first, *second, printing);
         }
     }
 }
@@ -63,13 +127,13 @@ pub(crate) fn put_block<W: Sink, A: Allocator>(
     session: &Session,
     opening: Opening,
     told: &Result<EndsTold<'_, A>, Refusal>,
-    routes: bool,
+    printing: Printing,
 )
     ensures { Writes lines.old lines.new
-        (block_text routes (block_of session.now opening told.now)) }
+        (block_text printing (block_of session.now opening told.now)) }
 {
     match told {
-        Ok(ends) => put_ends(lines, session, opening, ends, routes),
+        Ok(ends) => put_ends(lines, session, opening, ends, printing),
         Err(refusal) => put_refused_connection(lines, session, opening, *refusal),
     }
 }

@@ -1,6 +1,6 @@
 //! `bgp check` of a recording.
 
-ghost use Rattle.std.specs.Prelude.{◌≡◌, ◌<◌, ◌^◌, List};
+ghost use Rattle.std.specs.Prelude.{◌≡◌, ◌<◌, ◌^◌, List, Some};
 ghost use Rattle.packets.specs.Packet.{Recorded};
 ghost use Rattle.bgp_text.specs.Lines.{Writes};
 ghost use Rattle.bgp_check_tool.specs.Checking.{ChecksRecording, PutsAll, PutsBlock, file_text};
@@ -70,7 +70,7 @@ fn put_listed<A: Allocator + Copy, T: Tracker<A>, W: Sink>(
                 last_packet,
             };
             let told = check_connection::<A, T>(alloc, &between, &talk.connections, opening);
-            put_block(lines, &between.session, opening, &told, options.routes);
+            put_block(lines, &between.session, opening, &told, options.printing);
             counted.add_connection(&between.session, opening, &told);
         }
         Listed::Refused(addresses, fault) => {
@@ -129,16 +129,25 @@ fn put_file<W: Sink>(lines: &mut Lines<'_, W>, counted: &mut Counted, refusal: O
     }
 }
 
-/// Puts that the file was cut short, where it was.
-fn put_cut_short<W: Sink>(lines: &mut Lines<'_, W>, cut_short: Option<CutShort>)
-    ensures { Writes lines.old lines.new (cut_note cut_short) }
+/// Puts that the file was cut short behind this packet, unless what is well is left out.
+fn put_cut_behind<W: Sink>(lines: &mut Lines<'_, W>, quiet: bool, before: u64)
+    ensures { Writes lines.old lines.new (cut_note quiet (Some (record { before = before }))) }
+{
+    if quiet {
+        lines.put(b"");
+    } else {
+        lines.put(b"note: the recording is cut short in packet ");
+        lines.put_decimal(before as u128 + 1);
+        lines.put(b"\n");
+    }
+}
+
+/// Puts that the file was cut short, where it was, unless what is well is left out.
+fn put_cut_short<W: Sink>(lines: &mut Lines<'_, W>, quiet: bool, cut_short: Option<CutShort>)
+    ensures { Writes lines.old lines.new (cut_note quiet cut_short) }
 {
     match cut_short {
-        Some(CutShort { before }) => {
-            lines.put(b"note: the recording is cut short in packet ");
-            lines.put_decimal(before as u128 + 1);
-            lines.put(b"\n");
-        }
+        Some(CutShort { before }) => put_cut_behind(lines, quiet, before),
         None => lines.put(b""),
     }
 }
@@ -196,11 +205,12 @@ pub(crate) fn check_recording<A: Allocator + Copy, T: Tracker<A>, R: Source, W: 
     let lacking = put_all::<A, T, W>(alloc, &told, &talks, last_packet, &mut lines, &mut counted);
     put_file(&mut lines, &mut counted, stopped);
     put_file(&mut lines, &mut counted, lacking);
-    put_cut_short(&mut lines, cut_short);
+    let quiet = options.printing.quiet;
+    put_cut_short(&mut lines, quiet, cut_short);
     let refusal = stopped.or(lacking);
     let Counted { tally, refusals } = counted;
     put_nothing(&mut lines, tally, options.port);
-    tally.put(&mut lines);
+    tally.put_last(&mut lines, quiet);
     let status = hand_over(&mut lines, tally.status());
     // No effect: it ends the loan of the sink.
     lines.into_sink();

@@ -6,6 +6,7 @@ ghost use Rattle.bgp_check_tool.specs.Headline.{NoneIsWhole, NothingIsVacuous, T
 ghost use Rattle.bgp_check_tool.specs.Headline.{VerdictIsOverAll};
 ghost use Rattle.bgp_check_tool.specs.Headings.{HeadingsAreTheList, ListIsWithoutEnds};
 ghost use Rattle.bgp_check_tool.specs.Orders.{UnexplainedByAll, UnfinishedByAll};
+ghost use Rattle.bgp_check_tool.specs.Quiet.{QuietKeepsTrouble};
 ghost use Rattle.bgp_check_tool.specs.Repeated.{LineGivesTheVerdict};
 
 use bgp_check::{
@@ -84,6 +85,13 @@ pub fn each_of_them_is_told()
 pub fn without_its_ends_it_is_the_list()
     ensures lines { ListIsWithoutEnds }
     ensures all { HeadingsAreTheList }
+{}
+
+/// Where only what isn't well is told (`quiet`), what is printed of each connection is what is
+/// printed of it otherwise, without some pieces. All lines of an end that is a no or unfinished are
+/// kept, and of a refusal.
+pub fn quiet_keeps_what_is_not_well()
+    ensures { QuietKeepsTrouble }
 {}
 
 /// The line with the options of `bgp judge` gives the verdict that is told before it: framed as

@@ -3,7 +3,7 @@
 //!
 //! ```text
 //! let settings = Settings::Always;
-//! let options = CheckOptions { port: 179, within: 10, routes: false, settings };
+//! let options = CheckOptions { port: 179, within: 10, printing, settings };
 //! let checked = check_recording::<_, CompactTracker<_>, _, _>(alloc, &options, source, sink);
 //! std::process::exit(checked.status);
 //! ```
@@ -35,7 +35,7 @@ pub use headline::{a_printed_verdict_is_over_all_configurations, check_recording
 pub use laws::{
     a_judge_line_gives_the_verdict, a_verdict_is_over_all_configurations, each_of_them_is_told,
     no_configuration_has_a_run, no_order_has_a_run, no_order_is_whole, no_verdict_is_vacuous,
-    without_its_ends_it_is_the_list,
+    quiet_keeps_what_is_not_well, without_its_ends_it_is_the_list,
 };
 pub use nothing::NothingJudged;
 pub use options::CheckOptions;

@@ -1,6 +1,6 @@
 //! How a recording is checked.
 
-use bgp_check_text::Settings;
+use bgp_check_text::{Printing, Settings};
 
 /// How a recording is checked.
 #[derive(Clone, Copy, Debug)]
@@ -9,8 +9,8 @@ pub struct CheckOptions {
     pub port: u16,
     /// How many seconds after it came a message is handled at the latest.
     pub within: u16,
-    /// Whether the routes of each end are told.
-    pub routes: bool,
+    /// Which lines are printed.
+    pub printing: Printing,
     /// Whether the `bgp judge` command is told that reproduces a verdict, if the file is read to
     /// its end.
     pub settings: Settings,

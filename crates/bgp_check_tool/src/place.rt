@@ -3,11 +3,11 @@
 ghost use Rattle.std.specs.Prelude.{◌≡◌, count_by, option_map};
 ghost use Rattle.bgp_prefix.specs.Shown.{second_of};
 ghost use Rattle.mrt.specs.Reader.{shown_of};
-ghost use Rattle.bgp_explain.specs.Places.{place_with};
 ghost use Rattle.bgp_check_tool.specs.Place.{is_message_at, last_place, place_at};
 ghost use Rattle.bgp_check_tool.specs.Place.{second_at, sends, sent_place};
 
 use crate::orders::NoOrder;
+use bgp_explain::entry_place;
 use bgp_prefix::Seconds;
 use bgp_recording::Entry;
 use bgp_why::Place;
@@ -33,29 +33,18 @@ pub(crate) fn second_at(entries: &[Entry<'_>], count: usize) -> Seconds
     }
 }
 
-/// Returns a place without a fraction of its second.
-fn place_with(number: u64, packet: Option<u64>, second: Seconds) -> Place
-    ensures { result ≡ place_with number packet second }
-{
-    Place {
-        number,
-        packet,
-        second,
-        micro: None,
-    }
-}
-
 /// Returns where the record after so many stands; nowhere if there is none.
 pub(crate) fn place_at(entries: &[Entry<'_>], count: usize) -> Place
     ensures { result ≡ place_at entries.now count }
 {
     match entries.get(count) {
-        Some(entry) => place_with(
-            count as u64 + 1,
-            Some(entry.packet),
-            second_of(&entry.record),
-        ),
-        None => place_with(0, None, 0),
+        Some(entry) => entry_place(count as u64 + 1, entry),
+        None => Place {
+            number: 0,
+            packet: None,
+            second: 0,
+            micro: None,
+        },
     }
 }
 
@@ -70,7 +59,12 @@ pub(crate) fn last_place(entries: &[Entry<'_>]) -> Place
 pub(crate) fn sent_place(found: &NoOrder<'_>) -> Place
     ensures { result ≡ sent_place found.now }
 {
-    place_with(0, Some(found.unexplained.packet), found.message.second)
+    Place {
+        number: 0,
+        packet: Some(found.unexplained.packet),
+        second: found.message.second,
+        micro: found.message.micro,
+    }
 }
 
 /// Checks whether a record is that of a message that was sent.

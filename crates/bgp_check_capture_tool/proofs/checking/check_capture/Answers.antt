@@ -11,7 +11,7 @@ returns g c =
     let law : Joins g.W.Sink = record { joined = g.met.W.Sink.joined } in
     let fresh : IsFresh c.new-lines.result = record { empty = c.new-lines.ensures.empty; calm = c.new-lines.ensures.fresh } in
     let puts = c.put_file-counted.ensures.puts in
-    let wrote = and_nothing law (and_then law puts.wrote (and_then law c.put_fault.ensures (and_then law c.put_nothing.ensures c.put.ensures))) c.hand_over-status.ensures.writes in
+    let wrote = and_nothing law (and_then law puts.wrote (and_then law c.put_fault.ensures (and_then law c.put_nothing.ensures c.put_last.ensures))) c.hand_over-status.ensures.writes in
     record {
       octets = c.hold-held.result.octets.items;
       ending = c.hold-held.result.ending;

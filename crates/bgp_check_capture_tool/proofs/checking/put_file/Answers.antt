@@ -33,8 +33,8 @@ returns-clause-puts g c =
     let holds = subst (λ (rs : List NamedRecord). HoldsSessions (map located rs) c.in-Ok-of.sessions) c.as_slice.ensures.value c.in-Ok-of.ensures in
     let puts = c.put_sessions-counted.ensures.puts named holds in
     record {
-      text = blocks_text c.args.options.now.routes named puts.blocks;
-      wrote = subst (λ (telling : Telling). Writes c.args.lines.now c.put_sessions-counted.new.lines (blocks_text telling.routes named puts.blocks)) c.of-telling.ensures puts.wrote;
+      text = blocks_text c.args.options.now.printing named puts.blocks;
+      wrote = subst (λ (telling : Telling). Writes c.args.lines.now c.put_sessions-counted.new.lines (blocks_text telling.printing named puts.blocks)) c.of-telling.ensures puts.wrote;
       tells = inl (
         record {
           named = named;

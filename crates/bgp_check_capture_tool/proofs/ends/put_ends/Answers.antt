@@ -1,13 +1,15 @@
-use Rattle.std.proofs.Common.{[], List, ap, inl, inr, map, refl, subst}
+use Rattle.std.proofs.Common.{[], List, ap, inl, inr, map, not, refl, subst}
 use Rattle.mrt.specs.Reader.{shown_of}
 use Rattle.mrt_sessions.specs.File.{Located}
 use Rattle.mrt_sessions.specs.Located.{located}
 use Rattle.mrt_sessions.specs.Reading.{IsReading}
+use Rattle.bgp_list.specs.Sessions.{session_line}
+use Rattle.bgp_check_capture_tool.proofs.Adds.{nothing_added}
 use Rattle.bgp_check_capture_tool.proofs.WholeSession.{all_told, seen_as}
 use Rattle.bgp_check_capture_tool.proofs.ends.put_ends.Goals as goal
 
 pub returns-in_default : goal.returns-in_default
-returns-in_default g c = record { ends = []; told = inr (refl, refl); wrote = c.put.ensures; tallied = refl }
+returns-in_default g c = record { ends = []; told = inr (refl, refl); adds = nothing_added (session_line c.args.addresses (map located c.args.named.now)) c.args.lines.now _ (not c.args.telling.printing.quiet) c.put.ensures; tallied = refl }
 
 pub returns-then-is_all : goal.returns-then-is_all
 returns-then-is_all g c =

@@ -1,10 +1,14 @@
-use Rattle.std.proofs.Common.{◌≡◌, ◌∙◌, ◌+◌, ◌-◌, List, ap, arith, length, map, refl, sym, true, false, Option, ℕ, subst}
+use Rattle.std.proofs.Common.{◌≡◌, ◌∙◌, ◌+◌, ◌-◌, Bool, List, ap, arith, length, map, refl, sym, true, false, Option, ℕ, subst}
 use Rattle.std.proofs.lemmas.Bool.{eqb-true}
 use Rattle.std.proofs.lemmas.List.{length-map}
 use Rattle.bgp_prefix.specs.Shown.{ShownRecord}
 use Rattle.mrt.specs.Reader.{shown_of}
 use Rattle.bgp_text.proofs.Pieces.{Joins}
-use Rattle.bgp_check_capture_tool.specs.Ends.{Stretch}
+use Rattle.bgp_check_text.specs.declared.tally.Tally.{Tally}
+use Rattle.bgp_check_capture_tool.specs.Counted.{with_ends}
+use Rattle.bgp_check_capture_tool.specs.Ends.{Stretch, front_ends}
+use Rattle.bgp_check_capture_tool.specs.Putting.{Adds, heading_of}
+use Rattle.bgp_check_capture_tool.specs.Text.{ends_text}
 use Rattle.bgp_check_capture_tool.specs.StretchEnd.{IsStretchEnd, stretch_value, view_value}
 use Rattle.bgp_check_capture_tool.proofs.Fronts.{left_are, taken_are}
 use Rattle.bgp_check_capture_tool.proofs.ToldSoFar.{SoFar, both_lengths, none_left, none_told, one_told, shorter, told_up_to}
@@ -19,8 +23,10 @@ loop-rest-init g c =
     let front_len = c.split_at.ensures.front_len in
     let back_len = c.split_at.ensures.back_len in
     record {
-      so_far = none_told c.args.view.now.telling.routes (view_value c.args.view.now) (map shown_of c.args.records.now) (map shown_of c.split_at.result.0.now) (map shown_of c.split_at.result.1.now) n _ c.args.lines.now _ c.args.tally _
-          (sym (length-map c.split_at.result.0.now shown_of)) is front rest c.put_front-tally.ensures.wrote c.put_front-tally.ensures.tallied;
+      so_far = none_told (heading_of (view_value c.args.view.now)) c.args.view.now.telling.printing (view_value c.args.view.now) (map shown_of c.args.records.now) (map shown_of c.split_at.result.0.now) (map shown_of c.split_at.result.1.now) n _ c.args.lines.now _ c.args.tally _
+          (sym (length-map c.split_at.result.0.now shown_of)) is front rest
+          (subst (λ (h : Bool). Adds (heading_of (view_value c.args.view.now)) c.args.lines.now c.put_front-so_far.new.lines h c.put_front-so_far.result.is_headed (ends_text c.args.view.now.telling.printing c.args.view.now.session.local (front_ends (map shown_of c.split_at.result.0.now)))) c.new.ensures.is_headed (c.put_front-so_far.ensures.adds (heading_of (view_value c.args.view.now))))
+          (c.put_front-so_far.ensures.tallied ∙ ap (λ (t : Tally). with_ends t (front_ends (map shown_of c.split_at.result.0.now))) c.new.ensures.tally);
       all = omega (arith, front_len, back_len);
     }
 
@@ -37,7 +43,7 @@ end_of-requires g c =
 
 pub returns-in_default : goal.returns-in_default
 returns-in_default g c =
-    told_up_to c.args.view.now.telling.routes (view_value c.args.view.now) (map shown_of c.args.records.now) (map shown_of c.loop-rest.rest.now) c.loop-rest.before false c.args.lines.now _ c.args.tally _ (
+    told_up_to (heading_of (view_value c.args.view.now)) c.args.view.now.telling.printing (view_value c.args.view.now) (map shown_of c.args.records.now) (map shown_of c.loop-rest.rest.now) c.loop-rest.before false c.args.lines.now _ c.args.tally _ (
       λ no. absurd (let k : ⊥ = cc in k),
       λ none.
           let less = shorter (map shown_of c.loop-rest.rest.now) (map shown_of c.first_stretch.result.0.now) (map shown_of c.first_stretch.result.1.now) c.first_stretch.ensures in
@@ -64,7 +70,8 @@ pub loop-rest-preserved : goal.loop-rest-preserved
 loop-rest-preserved g c =
     let law : Joins g.W.Sink = record { joined = g.met.W.Sink.joined } in
     let view = view_value c.args.view.now in
-    let routes = c.args.view.now.telling.routes in
+    let printing = c.args.view.now.telling.printing in
+    let heading = heading_of view in
     let records = map shown_of c.args.records.now in
     let rest = map shown_of c.loop-rest.rest.now in
     let stretch = map shown_of c.first_stretch.result.0.now in
@@ -74,20 +81,20 @@ loop-rest-preserved g c =
     let end = stretch_value c.in-Ok.end in
     let len : length stretch ≡ count = length-map c.first_stretch.result.0.now shown_of in
     let is_end = subst (λ (o : Option ShownRecord). IsStretchEnd view before stretch o end) c.first_of-leaving.ensures c.in-Ok.ensures in
-    let more = one_told law routes view records rest stretch behind before count (Stretch end)
-    c.args.lines.now c.loop-rest.lines _ c.args.tally c.loop-rest.tally _ c.loop-rest.invariant.so_far c.first_stretch.ensures (sym len) is_end
-    (c.put_told-tally.ensures.wrote c.args.view.now.session.local) c.put_told-tally.ensures.tallied in
+    let more = one_told law heading printing view records rest stretch behind before count (Stretch end)
+    c.args.lines.now c.loop-rest.lines _ c.args.tally c.loop-rest.so_far _ c.loop-rest.invariant.so_far c.first_stretch.ensures (sym len) is_end
+    c.put_told-so_far.ensures.adds c.put_told-so_far.ensures.tallied in
     let lengths = both_lengths rest stretch behind c.first_stretch.ensures in
     let one = length-map c.loop-rest.rest.now shown_of in
     let other = length-map c.first_stretch.result.1.now shown_of in
     let all = c.loop-rest.invariant.all in
     let same : before + count ≡ length c.args.records.now - length c.first_stretch.result.1.now = omega (arith, lengths, one, other, all, len) in
     record {
-      so_far = subst (λ (n : ℕ). SoFar routes view records behind n c.args.lines.now c.put_told-tally.new.lines c.args.tally c.put_told-tally.result) same more;
+      so_far = subst (λ (n : ℕ). SoFar heading printing view records behind n c.args.lines.now c.put_told-so_far.new.lines c.args.tally c.put_told-so_far.result) same more;
       all = omega (arith, lengths, one, other, all, len);
     }
 
 pub returns : goal.returns
 returns g c =
-    told_up_to c.args.view.now.telling.routes (view_value c.args.view.now) (map shown_of c.args.records.now) (map shown_of c.loop-rest.rest.now) c.loop-rest.before true c.args.lines.now _ c.args.tally _
+    told_up_to (heading_of (view_value c.args.view.now)) c.args.view.now.telling.printing (view_value c.args.view.now) (map shown_of c.args.records.now) (map shown_of c.loop-rest.rest.now) c.loop-rest.before true c.args.lines.now _ c.args.tally _
     (λ yes. ap (map shown_of) (none_left c.loop-rest.rest.now (eqb-true (length c.loop-rest.rest.now) 0 (sym c.is_empty.ensures ∙ c.loop-rest-test.false))), λ none. refl) c.loop-rest.invariant.so_far

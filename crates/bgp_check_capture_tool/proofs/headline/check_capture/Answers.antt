@@ -21,7 +21,7 @@ returns-clause-no g c =
           blocks = all.blocks;
           told = all.told;
           noes = all_true c.no_configuration_explains_a_no.ensures c.what_is_judged_is_a_stretch.ensures c.a_no_names_its_record.ensures
-              (telling_of options all.plain c.check_capture.result.fault) options.routes all.named all.blocks all.told;
+              (telling_of options all.plain c.check_capture.result.fault) options.printing.routes all.named all.blocks all.told;
           is_text = all.is_text;
         }
         | inr none ↦ inr none.0

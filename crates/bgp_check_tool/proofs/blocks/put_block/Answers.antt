@@ -6,4 +6,4 @@ use Rattle.bgp_check_tool.proofs.blocks.put_block.Goals as goal
 pub returns-in-Ok : goal.returns-in-Ok
 returns-in-Ok g c =
     rw c.in-Ok.is
-    (subst (λ (text : List ℕ). Writes c.args.lines.now c.put_ends.new.lines text) (text_of_ends c.args.routes c.args.session.now c.args.opening c.in-Ok.ends) c.put_ends.ensures)
+    (subst (λ (text : List ℕ). Writes c.args.lines.now c.put_ends.new.lines text) (text_of_ends c.args.printing c.args.session.now c.args.opening c.in-Ok.ends) c.put_ends.ensures)

@@ -4,4 +4,4 @@ use Rattle.bgp_check_tool.proofs.blocks.put_both.Goals as goal
 pub returns : goal.returns
 returns g c =
     let law : Joins g.W.Sink = record { joined = g.met.W.Sink.joined } in
-    and_then law c.put_told.ensures c.put_told-2.ensures
+    and_then law c.put_kept.ensures c.put_kept-2.ensures

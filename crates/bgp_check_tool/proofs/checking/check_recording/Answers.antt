@@ -41,7 +41,7 @@ returns g c =
     c.new-counted.result.tally c.put_all-lacking.new.counted.tally c.new-counted.result.refusals.items c.put_all-lacking.new.counted.refusals.items c.put_all-lacking.result)
     same_settings (c.put_all-lacking.ensures.puts taken.packets taken.some) in
     let puts = all.puts in
-    let wrote = and_nothing law (and_then law puts.wrote (and_then law c.put_file.ensures.wrote (and_then law c.put_file-2.ensures.wrote (and_then law c.put_cut_short.ensures (and_then law c.put_nothing.ensures c.put.ensures))))) c.hand_over-status.ensures.writes in
+    let wrote = and_nothing law (and_then law puts.wrote (and_then law c.put_file.ensures.wrote (and_then law c.put_file-2.ensures.wrote (and_then law c.put_cut_short.ensures (and_then law c.put_nothing.ensures c.put_last.ensures))))) c.hand_over-status.ensures.writes in
     let same = c.err-stopped.ensures.value in
     let last = c.number-last_packet.ensures ∙ taken.many ∙ ap (looked_at taken.packets) (sym same) in
     let last' = c.number.ensures ∙ taken.many ∙ ap (looked_at taken.packets) (sym same) in
