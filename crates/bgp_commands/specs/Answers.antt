@@ -14,6 +14,7 @@ use Rattle.bgp_prefix.specs.Shown.{ShownRecord}
 use Rattle.bgp_prefix.specs.declared.session.Session.{Session}
 use Rattle.bgp_open.specs.declared.config.Config.{Config}
 use Rattle.bgp_import.specs.declared.options.RecordingOptions.{RecordingOptions}
+use Rattle.bgp_words.specs.declared.check.Checking.{Checking}
 use Rattle.bgp_words.specs.declared.words.Command.{Command}
 use Rattle.bgp_words.specs.declared.words.Command.TheVariants as words
 use Rattle.bgp_tool.specs.Front.{kept, no_capture, no_recording}
@@ -23,6 +24,7 @@ use Rattle.bgp_tool.specs.declared.front.WithFront.{WithFront}
 use Rattle.bgp_tool.specs.declared.note.CaptureCommand.{CaptureCommand}
 use Rattle.bgp_tool.specs.declared.note.CaptureCommand.TheVariants as commands
 use Rattle.bgp_tool.specs.declared.note.Note.{Note}
+use Rattle.bgp_tool.specs.declared.session_options.SessionOptions.{SessionOptions}
 use Rattle.bgp_tool.specs.declared.stream_options.StreamOptions.{StreamOptions}
 use Rattle.bgp_lines.specs.declared.form.LineForm.{LineForm}
 use Rattle.bgp_tool.specs.declared.opened.Outcome.{Outcome}
@@ -68,37 +70,41 @@ use Rattle.bgp_commands.specs.declared.ends.Ends.{Ends}
 abbrev pub stream_options : LineForm → Bool → StreamOptions
 stream_options form extended = record { limit = limit_with extended; form = form }
 
+-- which session's records are told, and how
+abbrev pub session_options : LineForm → Session → SessionOptions
+session_options form session = record { session = session; form = form }
+
 -- the file that a command reads, or else the one that it writes
 abbrev pub file_of : Command → Bor (List ℕ)
 file_of (words.Decode form extended file) = file
-file_of (words.Capture session recording file) = file
+file_of (words.Capture form session recording file) = file
 file_of (words.Judge config recording explain file) = file
 file_of (words.Import session recording file out) = file
 file_of (words.List port file) = file
-file_of (words.Check port within routes settings file) = file
+file_of (words.Check checking file) = file
 file_of (words.Speak config speaking file) = file
 file_of (words.Pair file) = file
 
 -- a command reads a file
 abbrev pub reads_file : Command → Bool
 reads_file (words.Decode form extended file) = true
-reads_file (words.Capture session recording file) = true
+reads_file (words.Capture form session recording file) = true
 reads_file (words.Judge config recording explain file) = true
 reads_file (words.Import session recording file out) = true
 reads_file (words.List port file) = true
-reads_file (words.Check port within routes settings file) = true
+reads_file (words.Check checking file) = true
 reads_file (words.Speak config speaking file) = false
 reads_file (words.Pair file) = false
 
 -- a command is an import of a file to itself
 abbrev pub IsOneName : Command → Type 0
 IsOneName (words.Decode form extended file) = ⊥
-IsOneName (words.Capture session recording file) = ⊥
+IsOneName (words.Capture form session recording file) = ⊥
 IsOneName (words.Judge config recording explain file) = ⊥
 IsOneName (words.Import session recording file out) =
     (file.now ≡ out.now) × (file.now ≢ codes "-")
 IsOneName (words.List port file) = ⊥
-IsOneName (words.Check port within routes settings file) = ⊥
+IsOneName (words.Check checking file) = ⊥
 IsOneName (words.Speak config speaking file) = ⊥
 IsOneName (words.Pair file) = ⊥
 
@@ -110,17 +116,17 @@ report_with explain = if explain then WithReason else VerdictAlone
 abbrev pub settings_with : Bool → Settings
 settings_with settings = if settings then Always else Never
 
-abbrev pub check_options : ℕ → ℕ → Bool → Bool → CheckOptions
-check_options port within routes settings = record {
-  port = port;
-  within = within;
-  routes = routes;
-  settings = settings_with settings;
+abbrev pub check_options : Checking → CheckOptions
+check_options checking = record {
+  port = checking.port;
+  within = checking.within;
+  printing = record { routes = checking.routes; quiet = checking.quiet };
+  settings = settings_with checking.settings;
 }
 
 -- of a capture: its messages have no port, and were handled when their records were written
 abbrev pub capture_options : CheckOptions → CaptureOptions
-capture_options options = record { routes = options.routes; settings = options.settings }
+capture_options options = record { printing = options.printing; settings = options.settings }
 
 -- an MRT file is written to standard output or to the file of this name
 abbrev pub IsDestination : Bor (List ℕ) → Destination → Type 0
@@ -309,9 +315,10 @@ module _ {R W X : Type 0} (may_lack : Config → List ShownRecord → ShownRecor
       × ((answer ≡ answers.Ended outcome)
       × DecodesReader (stream_options form extended) remaining contents file reader (writer_state old)
       (writer_state new) outcome)
-  Answers (words.Capture session recording file) = (outcome : FileOutcome X)
+  Answers (words.Capture form session recording file) = (outcome : FileOutcome X)
       × ((answer ≡ answers.Read outcome)
-      × DecodesFile remaining contents recording file reader old new outcome session)
+      × DecodesFile remaining contents recording file reader old new outcome
+      (session_options form session))
   Answers (words.Judge config recording explain file) = (outcome : FileOutcome X)
       × ((answer ≡ answers.Read outcome)
       × JudgesFile remaining contents recording file reader old new outcome config
@@ -320,8 +327,8 @@ module _ {R W X : Type 0} (may_lack : Config → List ShownRecord → ShownRecor
       × ((ends : Ends) × ((answer ≡ answers.Imported imported to ends) × IsDestination out to
       × ImportsFile remaining contents file reader old new session recording imported ends)))
   Answers (words.List port file) = ListsFile remaining contents file reader old new answer port
-  Answers (words.Check port within routes settings file) = ChecksFile remaining contents file
-      reader old new answer (check_options port within routes settings)
+  Answers (words.Check checking file) = ChecksFile remaining contents file
+      reader old new answer (check_options checking)
   Answers (words.Speak config speaking file) = ⊥
   Answers (words.Pair file) = ⊥
 

@@ -6,17 +6,16 @@ ghost use Rattle.bgp_tool.specs.Opened.{DecodesReader};
 ghost use Rattle.bgp_recording_tool.specs.Files.{DecodesFile, JudgesFile};
 ghost use Rattle.bgp_words.specs.Import.{CanImport};
 ghost use Rattle.bgp_commands.specs.Answers.{Answers, AnswersTo, IsOneName, report_with};
-ghost use Rattle.bgp_commands.specs.Answers.{stream_options};
+ghost use Rattle.bgp_commands.specs.Answers.{session_options, stream_options};
 ghost use Rattle.bgp_commands.specs.Answers as specs;
 ghost use Rattle.bgp_commands.specs.Sentences.{sentences_of, status_of};
 ghost use Rattle.bgp_commands.specs.declared.answer.Answer.{Answer as Given};
 
 use crate::answer::Answer;
-use crate::checking::{check, settings_with};
+use crate::checking::{check, check_options};
 use crate::importing::import;
 use crate::listing::list;
 use crate::voice::Voice;
-use bgp_check_tool::CheckOptions;
 use bgp_explain::Report;
 use bgp_import::RecordingOptions;
 use bgp_judge::Tracker;
@@ -24,7 +23,7 @@ use bgp_lines::LineForm;
 use bgp_open::Config;
 use bgp_prefix::Session;
 use bgp_recording_tool::{FileOutcome, decode_file, judge_file};
-use bgp_tool::{Outcome, Ready, StreamOptions, decode_opened, unopened};
+use bgp_tool::{Outcome, Ready, SessionOptions, StreamOptions, decode_opened, unopened};
 use bgp_wire::Limit;
 use bgp_words::Command;
 use mrt::FromWrite;
@@ -142,10 +141,11 @@ fn answer_from<'a, A: Allocator + Copy, T: Tracker<A>, R: Read + Ready + Drop, W
             file,
         } => Answer::Ended(decode(alloc, form, extended, file, reader, sink)),
         Command::Capture {
+            form,
             session,
             recording,
             file,
-        } => Answer::Read(decode_session(alloc, &session, &recording, file, reader, sink)),
+        } => Answer::Read(decode_session(alloc, form, session, &recording, file, reader, sink)),
         Command::Judge {
             config,
             recording,
@@ -161,19 +161,8 @@ fn answer_from<'a, A: Allocator + Copy, T: Tracker<A>, R: Read + Ready + Drop, W
             out,
         } => import(alloc, &session, &recording, file, out, reader, sink),
         Command::List { port, file } => list(alloc, port, file, reader, sink),
-        Command::Check {
-            port,
-            within,
-            routes,
-            settings,
-            file,
-        } => {
-            let options = CheckOptions {
-                port,
-                within,
-                routes,
-                settings: settings_with(settings),
-            };
+        Command::Check { checking, file } => {
+            let options = check_options(&checking);
             check::<A, T, R, W>(alloc, &options, file, reader, sink)
         }
         Command::Speak { .. } | Command::Pair { .. } => unreachable!(),
@@ -200,10 +189,11 @@ fn decode<'a, A: Allocator + Copy, R: Read + Drop, W: Write>(
     decode_opened(options, alloc, file, Ok(reader), sink)
 }
 
-/// Decodes the records of one session.
+/// Decodes the records of one session, in a form.
 fn decode_session<'a, A: Allocator + Copy, R: Read + Ready + Drop, W: Write>(
     alloc: A,
-    session: &Session,
+    form: LineForm,
+    session: Session,
     recording: &RecordingOptions,
     file: &'a str,
     reader: R,
@@ -211,9 +201,10 @@ fn decode_session<'a, A: Allocator + Copy, R: Read + Ready + Drop, W: Write>(
 ) -> FileOutcome<'a, A>
     requires { (writer_state sink.old).failures < 2 ^ 63 }
     ensures { DecodesFile R.remaining W.contents recording.now file.entry reader sink.old sink.new
-        result session.now }
+        result (session_options form session) }
 {
-    decode_file(alloc, session, recording, file, Ok(reader), sink)
+    let options = SessionOptions { session, form };
+    decode_file(alloc, &options, recording, file, Ok(reader), sink)
 }
 
 /// Judges one session, with the reason or without.

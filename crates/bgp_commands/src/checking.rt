@@ -8,16 +8,18 @@ ghost use Rattle.bgp_commands.specs.Answers as specs;
 use crate::answer::Answer;
 use crate::ends::Ends;
 use bgp_check_capture_tool::{CaptureOptions, CheckedCapture, check_capture};
+use bgp_check_text::Printing;
 use bgp_check_tool::{CheckOptions, CheckedRecording, Settings, check_recording};
 use bgp_judge::Tracker;
 use bgp_recording_tool::Peeked;
 use bgp_tool::WithFront;
+use bgp_words::Checking;
 use mrt::{FromRead, FromWrite, Sink};
 use std::alloc::Allocator;
 use std::io::{Read, Write};
 
 /// Returns whether the options of `bgp judge` are printed after the verdicts.
-pub(crate) fn settings_with(settings: bool) -> Settings
+fn settings_with(settings: bool) -> Settings
     ensures { result ≡ specs.settings_with settings }
 {
     if settings {
@@ -27,16 +29,31 @@ pub(crate) fn settings_with(settings: bool) -> Settings
     }
 }
 
+/// Returns how a pcap file is checked.
+pub(crate) fn check_options(checking: &Checking) -> CheckOptions
+    ensures { result ≡ specs.check_options checking.now }
+{
+    CheckOptions {
+        port: checking.port,
+        within: checking.within,
+        printing: Printing {
+            routes: checking.routes,
+            quiet: checking.quiet,
+        },
+        settings: settings_with(checking.settings),
+    }
+}
+
 /// Returns how an MRT file is checked.
 fn capture_options(options: &CheckOptions) -> CaptureOptions
     ensures { result ≡ specs.capture_options options.now }
 {
     let CheckOptions {
-        routes,
+        printing,
         settings,
         ..
     } = *options;
-    CaptureOptions { routes, settings }
+    CaptureOptions { printing, settings }
 }
 
 /// Checks both ends of each connection in a pcap file, or the local system of each session in an

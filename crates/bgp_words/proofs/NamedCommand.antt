@@ -7,6 +7,7 @@ use Rattle.bgp_words.specs.Decode.{IsCapture, IsForm, IsStream, IsDecodeOf}
 use Rattle.bgp_words.specs.Judge.{IsJudge}
 use Rattle.bgp_words.specs.Values.{IsTurnsText}
 use Rattle.bgp_words.specs.Import.{CanImport, IsChecking, IsImport, IsListing}
+use Rattle.bgp_words.specs.declared.check.Checking.{Checking}
 use Rattle.bgp_words.specs.Speak.{CanSpeak, IsSpeak}
 use Rattle.bgp_import.specs.declared.options.RecordingOptions.{RecordingOptions}
 use Rattle.bgp_talk.specs.declared.options.Speaking.{Speaking}
@@ -37,14 +38,14 @@ of_decode rows file (Decode form extended name) is also =
     let (here, _mrt, _peer, _local, _all, plain, numbers) = is in
     let (there, _mrt, _peer, _local, _all, long, written) = also.1 in
     (same_form rows form numbers written, long ∙ sym plain, same_Some _ _ (sym there ∙ here))
-of_decode rows file (Capture session recording name) is also =
+of_decode rows file (Capture form session recording name) is also =
     let (_file, not_mrt, _peer, _local, _all, _plain, _form) = is in
     let (_file, mrt, _peer, _local, _refresh, _long, _recording, _form) = also.1 in
     let bad : false ≡ true = sym not_mrt ∙ mrt in absurd (cc)
 of_decode rows file (Judge config recording explain name) is also = absurd (two_names (codes "decode") (codes "judge") (λ e. omega (arith, e)) also.0)
 of_decode rows file (Import session recording name out) is also = absurd (two_names (codes "decode") (codes "import") (λ e. omega (arith, e)) also.0)
 of_decode rows file (Listing port name) is also = absurd (two_names (codes "decode") (codes "list") (λ e. omega (arith, e)) also.0)
-of_decode rows file (Check port within routes settings name) is also = absurd (two_names (codes "decode") (codes "check") (λ e. omega (arith, e)) also.0)
+of_decode rows file (Check checking name) is also = absurd (two_names (codes "decode") (codes "check") (λ e. omega (arith, e)) also.0)
 of_decode rows file (Speak config speaking name) is also = absurd (two_names (codes "decode") (codes "speak") (λ e. omega (arith, e)) also.0)
 of_decode rows file (Pair name) is also = absurd (two_names (codes "decode") (codes "pair") (λ e. omega (arith, e)) also.0)
 
@@ -56,14 +57,14 @@ one_file (Some p) file command first second =
 
 -- where the values of `decode` are none, no command is spelled
 pub none_decoded : (rows : List Row) → ((form : LineForm) (extended : Bool) (file : Text) → IsStream form extended file rows → ⊥)
-    → ((session : Session) (recording : RecordingOptions) (file : Text) → IsCapture session recording file rows → ⊥)
+    → ((form : LineForm) (session : Session) (recording : RecordingOptions) (file : Text) → IsCapture form session recording file rows → ⊥)
     → (command : Command) → NamesBy (codes "decode") rows command → ⊥
 none_decoded rows stream capture (Decode form extended file) is = stream form extended file.now is.1
-none_decoded rows stream capture (Capture session recording file) is = capture session recording file.now is.1
+none_decoded rows stream capture (Capture form session recording file) is = capture form session recording file.now is.1
 none_decoded rows stream capture (Judge config recording explain file) is = two_names (codes "decode") (codes "judge") (λ e. omega (arith, e)) is.0
 none_decoded rows stream capture (Import session recording file out) is = two_names (codes "decode") (codes "import") (λ e. omega (arith, e)) is.0
 none_decoded rows stream capture (Listing port file) is = two_names (codes "decode") (codes "list") (λ e. omega (arith, e)) is.0
-none_decoded rows stream capture (Check port within routes settings file) is = two_names (codes "decode") (codes "check") (λ e. omega (arith, e)) is.0
+none_decoded rows stream capture (Check checking file) is = two_names (codes "decode") (codes "check") (λ e. omega (arith, e)) is.0
 none_decoded rows stream capture (Speak config speaking file) is = two_names (codes "decode") (codes "speak") (λ e. omega (arith, e)) is.0
 none_decoded rows stream capture (Pair file) is = two_names (codes "decode") (codes "pair") (λ e. omega (arith, e)) is.0
 
@@ -71,11 +72,11 @@ none_decoded rows stream capture (Pair file) is = two_names (codes "decode") (co
 pub none_judged : (rows : List Row) → ((config : Config) (recording : RecordingOptions) (explain : Bool) (file : Text) → IsJudge config recording explain file rows → ⊥)
     → (command : Command) → NamesBy (codes "judge") rows command → ⊥
 none_judged rows none (Decode form extended file) is = two_names (codes "judge") (codes "decode") (λ e. omega (arith, e)) is.0
-none_judged rows none (Capture session recording file) is = two_names (codes "judge") (codes "decode") (λ e. omega (arith, e)) is.0
+none_judged rows none (Capture form session recording file) is = two_names (codes "judge") (codes "decode") (λ e. omega (arith, e)) is.0
 none_judged rows none (Judge config recording explain file) is = none config recording explain file.now is.1
 none_judged rows none (Import session recording file out) is = two_names (codes "judge") (codes "import") (λ e. omega (arith, e)) is.0
 none_judged rows none (Listing port file) is = two_names (codes "judge") (codes "list") (λ e. omega (arith, e)) is.0
-none_judged rows none (Check port within routes settings file) is = two_names (codes "judge") (codes "check") (λ e. omega (arith, e)) is.0
+none_judged rows none (Check checking file) is = two_names (codes "judge") (codes "check") (λ e. omega (arith, e)) is.0
 none_judged rows none (Speak config speaking file) is = two_names (codes "judge") (codes "speak") (λ e. omega (arith, e)) is.0
 none_judged rows none (Pair file) is = two_names (codes "judge") (codes "pair") (λ e. omega (arith, e)) is.0
 
@@ -83,11 +84,11 @@ none_judged rows none (Pair file) is = two_names (codes "judge") (codes "pair") 
 pub none_spoken : (rows : List Row) → ((config : Config) (speaking : Speaking) (file : Text) → IsSpeak config speaking file rows → ⊥)
     → (command : Command) → NamesBy (codes "speak") rows command → ⊥
 none_spoken rows none (Decode form extended file) is = two_names (codes "speak") (codes "decode") (λ e. omega (arith, e)) is.0
-none_spoken rows none (Capture session recording file) is = two_names (codes "speak") (codes "decode") (λ e. omega (arith, e)) is.0
+none_spoken rows none (Capture form session recording file) is = two_names (codes "speak") (codes "decode") (λ e. omega (arith, e)) is.0
 none_spoken rows none (Judge config recording explain file) is = two_names (codes "speak") (codes "judge") (λ e. omega (arith, e)) is.0
 none_spoken rows none (Import session recording file out) is = two_names (codes "speak") (codes "import") (λ e. omega (arith, e)) is.0
 none_spoken rows none (Listing port file) is = two_names (codes "speak") (codes "list") (λ e. omega (arith, e)) is.0
-none_spoken rows none (Check port within routes settings file) is = two_names (codes "speak") (codes "check") (λ e. omega (arith, e)) is.0
+none_spoken rows none (Check checking file) is = two_names (codes "speak") (codes "check") (λ e. omega (arith, e)) is.0
 none_spoken rows none (Speak config speaking file) is = none config speaking file.now is.1
 none_spoken rows none (Pair file) is = two_names (codes "speak") (codes "pair") (λ e. omega (arith, e)) is.0
 
@@ -95,11 +96,11 @@ none_spoken rows none (Pair file) is = two_names (codes "speak") (codes "pair") 
 pub none_imported : (rows : List Row) → ((session : Session) (recording : RecordingOptions) (file out : Text) → IsImport session recording file out rows → ⊥)
     → (command : Command) → NamesBy (codes "import") rows command → ⊥
 none_imported rows none (Decode form extended file) is = two_names (codes "import") (codes "decode") (λ e. omega (arith, e)) is.0
-none_imported rows none (Capture session recording file) is = two_names (codes "import") (codes "decode") (λ e. omega (arith, e)) is.0
+none_imported rows none (Capture form session recording file) is = two_names (codes "import") (codes "decode") (λ e. omega (arith, e)) is.0
 none_imported rows none (Judge config recording explain file) is = two_names (codes "import") (codes "judge") (λ e. omega (arith, e)) is.0
 none_imported rows none (Import session recording file out) is = none session recording file.now out.now is.1
 none_imported rows none (Listing port file) is = two_names (codes "import") (codes "list") (λ e. omega (arith, e)) is.0
-none_imported rows none (Check port within routes settings file) is = two_names (codes "import") (codes "check") (λ e. omega (arith, e)) is.0
+none_imported rows none (Check checking file) is = two_names (codes "import") (codes "check") (λ e. omega (arith, e)) is.0
 none_imported rows none (Speak config speaking file) is = two_names (codes "import") (codes "speak") (λ e. omega (arith, e)) is.0
 none_imported rows none (Pair file) is = two_names (codes "import") (codes "pair") (λ e. omega (arith, e)) is.0
 
@@ -107,23 +108,23 @@ none_imported rows none (Pair file) is = two_names (codes "import") (codes "pair
 pub none_listed : (rows : List Row) → ((port : ℕ) (file : Text) → IsListing port file rows → ⊥)
     → (command : Command) → NamesBy (codes "list") rows command → ⊥
 none_listed rows none (Decode form extended file) is = two_names (codes "list") (codes "decode") (λ e. omega (arith, e)) is.0
-none_listed rows none (Capture session recording file) is = two_names (codes "list") (codes "decode") (λ e. omega (arith, e)) is.0
+none_listed rows none (Capture form session recording file) is = two_names (codes "list") (codes "decode") (λ e. omega (arith, e)) is.0
 none_listed rows none (Judge config recording explain file) is = two_names (codes "list") (codes "judge") (λ e. omega (arith, e)) is.0
 none_listed rows none (Import session recording file out) is = two_names (codes "list") (codes "import") (λ e. omega (arith, e)) is.0
 none_listed rows none (Listing port file) is = none port file.now is.1
-none_listed rows none (Check port within routes settings file) is = two_names (codes "list") (codes "check") (λ e. omega (arith, e)) is.0
+none_listed rows none (Check checking file) is = two_names (codes "list") (codes "check") (λ e. omega (arith, e)) is.0
 none_listed rows none (Speak config speaking file) is = two_names (codes "list") (codes "speak") (λ e. omega (arith, e)) is.0
 none_listed rows none (Pair file) is = two_names (codes "list") (codes "pair") (λ e. omega (arith, e)) is.0
 
 -- and of `check`
-pub none_checked : (rows : List Row) → ((port within : ℕ) (routes settings : Bool) (file : Text) → IsChecking port within routes settings file rows → ⊥)
+pub none_checked : (rows : List Row) → ((checking : Checking) (file : Text) → IsChecking checking file rows → ⊥)
     → (command : Command) → NamesBy (codes "check") rows command → ⊥
 none_checked rows none (Decode form extended file) is = two_names (codes "check") (codes "decode") (λ e. omega (arith, e)) is.0
-none_checked rows none (Capture session recording file) is = two_names (codes "check") (codes "decode") (λ e. omega (arith, e)) is.0
+none_checked rows none (Capture form session recording file) is = two_names (codes "check") (codes "decode") (λ e. omega (arith, e)) is.0
 none_checked rows none (Judge config recording explain file) is = two_names (codes "check") (codes "judge") (λ e. omega (arith, e)) is.0
 none_checked rows none (Import session recording file out) is = two_names (codes "check") (codes "import") (λ e. omega (arith, e)) is.0
 none_checked rows none (Listing port file) is = two_names (codes "check") (codes "list") (λ e. omega (arith, e)) is.0
-none_checked rows none (Check port within routes settings file) is = none port within routes settings file.now is.1
+none_checked rows none (Check checking file) is = none checking file.now is.1
 none_checked rows none (Speak config speaking file) is = two_names (codes "check") (codes "speak") (λ e. omega (arith, e)) is.0
 none_checked rows none (Pair file) is = two_names (codes "check") (codes "pair") (λ e. omega (arith, e)) is.0
 
@@ -142,11 +143,11 @@ few_turns (Some word) turns is = is.1
 
 can_by : (p : Text × List Row) (command : Command) → Names (Some p) command → CanSpeak command
 can_by p (Decode form extended file) is = tt
-can_by p (Capture session recording file) is = tt
+can_by p (Capture form session recording file) is = tt
 can_by p (Judge config recording explain file) is = tt
 can_by p (Import session recording file out) is = tt
 can_by p (Listing port file) is = tt
-can_by p (Check port within routes settings file) is = tt
+can_by p (Check checking file) is = tt
 can_by p (Speak config speaking file) is = (is.1.1, few_turns (first_of (codes "turns") p.1) speaking.turns is.1.2.turns)
 can_by p (Pair file) is = tt
 
@@ -157,11 +158,11 @@ can_speak (Some p) command is = can_by p command is
 -- what imports can do so
 can_import_by : (p : Text × List Row) (command : Command) → Names (Some p) command → CanImport command
 can_import_by p (Decode form extended file) is = tt
-can_import_by p (Capture session recording file) is = tt
+can_import_by p (Capture form session recording file) is = tt
 can_import_by p (Judge config recording explain file) is = tt
 can_import_by p (Import session recording file out) is = (is.1.1, is.1.3)
 can_import_by p (Listing port file) is = tt
-can_import_by p (Check port within routes settings file) is = tt
+can_import_by p (Check checking file) is = tt
 can_import_by p (Speak config speaking file) is = tt
 can_import_by p (Pair file) is = tt
 

@@ -122,35 +122,34 @@ list_port_0 : (name : Text) → LacksPort (found name (codes "list" ∷ codes "-
 unfolding clap_on_literals
 list_port_0 name port is = is.2 (sym is.0.1)
 
--- of `decode` no form is told, or one that a capture hasn't
+-- of `decode` no form is told
 abbrev as2_words : List Text
 as2_words = codes "decode" ∷ codes "--as2" ∷ codes "a.bgp" ∷ []
 
-abbrev names_words : List Text
-names_words = codes "decode" ∷ codes "--names" ∷ codes "--mrt" ∷ codes "--peer" ∷ codes "192.0.2.2"
+abbrev as2_capture_words : List Text
+as2_capture_words = codes "decode" ∷ codes "--as2" ∷ codes "--mrt" ∷ codes "--peer" ∷ codes "192.0.2.2"
     ∷ codes "--local" ∷ codes "192.0.2.1" ∷ codes "a.mrt" ∷ []
 
-as2_alone : (name : Text) (form : LineForm) → IsForm form (found name as2_words) → ⊥
+abbrev HasNoForm : List Row → Type 0
+HasNoForm rows = (form : LineForm) → IsForm form rows → ⊥
+
+as2_alone : (name : Text) → HasNoForm (found name as2_words)
 unfolding clap_on_literals
 as2_alone name Plain is = let bad : true ≡ false = is.1 in absurd (cc)
 as2_alone name (InWords as2) is = let bad : false ≡ true = is.0 in absurd (cc)
 
-no_as2 : (name : Text) → NamesNone name as2_words
+as2_alone_of_capture : (name : Text) → HasNoForm (found name as2_capture_words)
 unfolding clap_on_literals
-no_as2 name command named =
-    none_decoded (found name as2_words)
-    (λ form extended file is. as2_alone name form (let (_file, _mrt, _peer, _local, _all, _plain, form) = is in form))
-    (λ session recording file is. as2_alone name Plain (let (_file, _mrt, _peer, _local, _refresh, _long, _recording, form) = is in form))
-    command named
+as2_alone_of_capture name Plain is = let bad : true ≡ false = is.1 in absurd (cc)
+as2_alone_of_capture name (InWords as2) is = let bad : false ≡ true = is.0 in absurd (cc)
 
-no_names : (name : Text) → NamesNone name names_words
-unfolding clap_on_literals
-no_names name command named =
-    none_decoded (found name names_words)
-    (λ form extended file is. let bad : true ≡ false = is.1 in absurd (cc))
-    (λ session recording file is. let (_file, _mrt, _peer, _local, _refresh, _long, _recording, form) = is in
-    let bad : true ≡ false = form.0 in absurd (cc))
-    command named
+no_decode : (name : Text) (row : List Text) → subcommand_of program_words (name ∷ row) ≡ Some (codes "decode", found name row)
+    → HasNoForm (found name row) → NamesNone name row
+no_decode name row names none command named =
+    none_decoded (found name row)
+    (λ form extended file is. none form (let (_file, _mrt, _peer, _local, _all, _plain, form) = is in form))
+    (λ form session recording file is. none form (let (_file, _mrt, _peer, _local, _refresh, _long, _recording, form) = is in form))
+    command (subst (λ used. Names used command) names named)
 
 -- one row after another
 abbrev AreRows : Text → List (List Text) → Type 0
@@ -176,7 +175,8 @@ import_row name option value passes names lacks =
 rows_of_recordings : (name : Text) → AreRows name (
     import_with (codes "--port") (codes "65536") ∷ import_with (codes "--local-port") (codes "0")
     ∷ import_with (codes "--connection") (codes "0") ∷ import_with (codes "--within") (codes "65536")
-    ∷ (codes "list" ∷ codes "--port" ∷ codes "0" ∷ codes "a.pcap" ∷ []) ∷ as2_words ∷ names_words ∷ [])
+    ∷ (codes "list" ∷ codes "--port" ∷ codes "0" ∷ codes "a.pcap" ∷ []) ∷ as2_words
+    ∷ as2_capture_words ∷ [])
 unfolding clap_on_literals
 rows_of_recordings name = (
   import_row name (codes "--port") (codes "65536") refl refl (high_port name),
@@ -192,8 +192,8 @@ rows_of_recordings name = (
             nothing = no_list name (codes "list" ∷ codes "--port" ∷ codes "0" ∷ codes "a.pcap" ∷ []) refl (list_port_0 name);
           },
           (
-            record { passes = refl; nothing = no_as2 name },
-            (record { passes = refl; nothing = no_names name }, tt),
+            record { passes = refl; nothing = no_decode name as2_words refl (as2_alone name) },
+            (record { passes = refl; nothing = no_decode name as2_capture_words refl (as2_alone_of_capture name) }, tt),
           ),
         ),
       ),

@@ -32,17 +32,18 @@ IsStream form extended file rows =
     × (is_given (codes "skip-refresh") rows ≡ false)
     × (extended ≡ is_given (codes "extended") rows) × IsForm form rows
 
--- The values of `decode --mrt --peer A --local A FILE`, of a session without route refresh, whose
--- messages are passed over with `--skip-refresh`; `--extended`: the local system offers extended
--- messages. What is told of a recording is there whatever FILE is. Its lines aren't in words.
-abbrev pub IsCapture : Session → RecordingOptions → Text → List Row → Type 0
-IsCapture session recording file rows =
+-- The values of `decode --mrt --peer A --local A FILE`, with `--names`, `--names --as2` or neither,
+-- of a session without route refresh, whose messages are passed over with `--skip-refresh`;
+-- `--extended`: the local system offers extended messages. What is told of a recording is there
+-- whatever FILE is.
+abbrev pub IsCapture : LineForm → Session → RecordingOptions → Text → List Row → Type 0
+IsCapture form session recording file rows =
     (first_of (codes "FILE") rows ≡ Some file) × (is_given (codes "mrt") rows ≡ true)
     × IsValue IsAddressText (codes "peer") rows session.peer
     × IsValue IsAddressText (codes "local") rows session.local
     × (session.refresh ≡ refresh_told false rows)
     × (session.extended ≡ is_given (codes "extended") rows)
-    × AreRecordingOptions recording rows × IsForm Plain rows
+    × AreRecordingOptions recording rows × IsForm form rows
 
 -- a word that names a file: it is no flag, or a dash alone
 abbrev pub IsFileWord : Text → Type 0
@@ -58,10 +59,10 @@ IsDecode words file = (name : Text)
 abbrev pub IsDecodeOf : Text → Command → Type 0
 IsDecodeOf text (Decode form extended file) =
     (form ≡ Plain) × (extended ≡ false) × (file.now ≡ text)
-IsDecodeOf text (Capture session recording file) = ⊥
+IsDecodeOf text (Capture form session recording file) = ⊥
 IsDecodeOf text (Judge config recording explain file) = ⊥
 IsDecodeOf text (Import session recording file out) = ⊥
 IsDecodeOf text (Listing port file) = ⊥
-IsDecodeOf text (Check port within routes settings file) = ⊥
+IsDecodeOf text (Check checking file) = ⊥
 IsDecodeOf text (Speak config speaking file) = ⊥
 IsDecodeOf text (Pair file) = ⊥

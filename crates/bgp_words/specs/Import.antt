@@ -8,6 +8,7 @@ use Rattle.bgp_words.specs.Values.{IsPortText, IsSecondsText, IsValue, is_given}
 use Rattle.bgp_words.specs.Settings.{IsOfOneFamily, IsSession}
 use Rattle.bgp_words.specs.Recording.{AreRecordingOptions, refresh_told}
 use Rattle.bgp_import.specs.declared.options.RecordingOptions.{RecordingOptions}
+use Rattle.bgp_words.specs.declared.check.Checking.{Checking}
 use Rattle.bgp_words.specs.declared.words.Command.{Command}
 use Rattle.bgp_words.specs.declared.words.Command.TheVariants.{Decode, Capture, Judge}
 use Rattle.bgp_words.specs.declared.words.Command.TheVariants.{Check, Import, List as Listing}
@@ -32,22 +33,24 @@ IsListing port file rows =
     IsValue IsPortText (codes "port") rows port × (first_of (codes "FILE") rows ≡ Some file)
 
 -- the values of `check`: the port of the connections, the patience, whether routes and settings are
--- wanted, and a file
-abbrev pub IsChecking : ℕ → ℕ → Bool → Bool → Text → List Row → Type 0
-IsChecking port within routes settings file rows =
-    IsValue IsPortText (codes "port") rows port
-    × IsValue IsSecondsText (codes "within") rows within
-    × (routes ≡ is_given (codes "routes") rows) × (settings ≡ is_given (codes "settings") rows)
+-- wanted, whether what is well is left out, and a file
+abbrev pub IsChecking : Checking → Text → List Row → Type 0
+IsChecking checking file rows =
+    IsValue IsPortText (codes "port") rows checking.port
+    × IsValue IsSecondsText (codes "within") rows checking.within
+    × (checking.routes ≡ is_given (codes "routes") rows)
+    × (checking.settings ≡ is_given (codes "settings") rows)
+    × (checking.quiet ≡ is_given (codes "quiet") rows)
     × (first_of (codes "FILE") rows ≡ Some file)
 
 -- a command to import can be done: its session is of one family, and its ends can be told apart
 abbrev pub CanImport : Command → Type 0
 CanImport (Decode form extended file) = Unit {0}
-CanImport (Capture session recording file) = Unit {0}
+CanImport (Capture form session recording file) = Unit {0}
 CanImport (Judge config recording explain file) = Unit {0}
 CanImport (Import session recording file out) =
     IsOfOneFamily session × AreApart session recording.local_port
 CanImport (Listing port file) = Unit {0}
-CanImport (Check port within routes settings file) = Unit {0}
+CanImport (Check checking file) = Unit {0}
 CanImport (Speak config speaking file) = Unit {0}
 CanImport (Pair file) = Unit {0}

@@ -52,12 +52,12 @@ pub record IsJudgeLine (words : List Text) (parts : ConfigParts) (file : Text) :
 -- is wanted
 abbrev pub IsJudgeOf : List Text → Command → Type 0
 IsJudgeOf words (Decode form extended file) = ⊥
-IsJudgeOf words (Capture session recording file) = ⊥
+IsJudgeOf words (Capture form session recording file) = ⊥
 IsJudgeOf words (Judge config recording explain file) =
     IsJudgeLine words config.parts file.now × (recording ≡ usual_recording)
     × (explain ≡ false)
 IsJudgeOf words (Import session recording file out) = ⊥
 IsJudgeOf words (Listing port file) = ⊥
-IsJudgeOf words (Check port within routes settings file) = ⊥
+IsJudgeOf words (Check checking file) = ⊥
 IsJudgeOf words (Speak config speaking file) = ⊥
 IsJudgeOf words (Pair file) = ⊥

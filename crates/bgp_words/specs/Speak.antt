@@ -43,11 +43,11 @@ IsSpeak config speaking file rows =
 -- a command to speak can be done: both addresses are of one family, and turns can be counted
 abbrev pub CanSpeak : Command → Type 0
 CanSpeak (Decode form extended file) = Unit {0}
-CanSpeak (Capture session recording file) = Unit {0}
+CanSpeak (Capture form session recording file) = Unit {0}
 CanSpeak (Judge config recording explain file) = Unit {0}
 CanSpeak (Import session recording file out) = Unit {0}
 CanSpeak (Listing port file) = Unit {0}
-CanSpeak (Check port within routes settings file) = Unit {0}
+CanSpeak (Check checking file) = Unit {0}
 CanSpeak (Speak config speaking file) =
     IsOfOneFamily config.parts.session × (speaking.turns < 2 ^ 63)
 CanSpeak (Pair file) = Unit {0}

@@ -32,23 +32,23 @@ IsUsed name values (Some used) = (used.0 ≡ name) × values used.1
 -- the name of a command
 abbrev pub name_of : Command → Text
 name_of (Decode form extended file) = codes "decode"
-name_of (Capture session recording file) = codes "decode"
+name_of (Capture form session recording file) = codes "decode"
 name_of (Judge config recording explain file) = codes "judge"
 name_of (Import session recording file out) = codes "import"
 name_of (Listing port file) = codes "list"
-name_of (Check port within routes settings file) = codes "check"
+name_of (Check checking file) = codes "check"
 name_of (Speak config speaking file) = codes "speak"
 name_of (Pair file) = codes "pair"
 
 -- its values
 abbrev pub AreValuesOf : Command → List Row → Type 0
 AreValuesOf (Decode form extended file) = IsStream form extended file.now
-AreValuesOf (Capture session recording file) = IsCapture session recording file.now
+AreValuesOf (Capture form session recording file) = IsCapture form session recording file.now
 AreValuesOf (Judge config recording explain file) = IsJudge config recording explain file.now
 AreValuesOf (Import session recording file out) = IsImport session recording file.now out.now
 AreValuesOf (Listing port file) = IsListing port file.now
-AreValuesOf (Check port within routes settings file) =
-    IsChecking port within routes settings file.now
+AreValuesOf (Check checking file) =
+    IsChecking checking file.now
 AreValuesOf (Speak config speaking file) = IsSpeak config speaking file.now
 AreValuesOf (Pair file) = IsPair file.now
 
@@ -170,7 +170,7 @@ fault_rows =
 -- Words after the program's name in which no word is at fault, and a value or what is given beside
 -- it is: neither way to come to a connection, both, ports 0 and 65536, and 2 to the 63rd turns; of
 -- recordings ports 0 and 65536, connection 0, and 65536 seconds; AS numbers of two octets in lines
--- that aren't in words, and records in words.
+-- that aren't in words, of a stream and of a capture.
 abbrev pub value_rows : List (List Text)
 value_rows =
     speak_with (next_hop4 ++ next_hop6)
@@ -186,7 +186,7 @@ value_rows =
     ∷ import_with (codes "--within") (codes "65536")
     ∷ (codes "list" ∷ codes "--port" ∷ codes "0" ∷ codes "a.pcap" ∷ [])
     ∷ (codes "decode" ∷ codes "--as2" ∷ codes "a.bgp" ∷ [])
-    ∷ (codes "decode" ∷ codes "--names" ∷ codes "--mrt" ∷ codes "--peer" ∷ codes "192.0.2.2"
+    ∷ (codes "decode" ∷ codes "--as2" ∷ codes "--mrt" ∷ codes "--peer" ∷ codes "192.0.2.2"
     ∷ codes "--local" ∷ codes "192.0.2.1" ∷ codes "a.mrt" ∷ []) ∷ []
 
 -- an error of this kind, or memory was refused

@@ -1,6 +1,6 @@
 -- The words that the program's command line may have: those of its commands. How words are read is
 -- told by the crate clap, of a program and its commands.
-use Rattle.std.specs.Prelude.{true, [], ◌∷◌, Some, codes}
+use Rattle.std.specs.Prelude.{ℕ, true, [], ◌∷◌, Some, codes}
 use Rattle.clap.specs.Words.{App, Rule, Text, new_app, new_rule, with_rule, with_subcommand}
 use Rattle.clap.specs.declared.builder.action.ArgAction.TheVariants.{SetTrue}
 
@@ -8,9 +8,12 @@ use Rattle.clap.specs.declared.builder.action.ArgAction.TheVariants.{SetTrue}
 abbrev pub file_word : Text → Rule
 file_word name = record (new_rule name) { required = true }
 
--- a flag, and an option with a value
+-- a flag, one that has a letter, too, and an option with a value
 abbrev pub flag_word : Text → Rule
 flag_word name = record (new_rule name) { long = Some name; action = Some SetTrue }
+
+abbrev pub letter_word : Text → ℕ → Rule
+letter_word name letter = record (flag_word name) { short = Some letter }
 
 abbrev pub option_word : Text → Rule
 option_word name = record (new_rule name) { long = Some name }
@@ -89,11 +92,13 @@ import_words =
 abbrev pub list_words : App
 list_words = with_rule (with_file (codes "list")) port_word
 
--- `check FILE`, with the port, the patience and the wishes for routes and settings, or without
+-- `check FILE`, with the port, the patience, and the wishes for routes and settings and that what is
+-- well be left out (by its letter `q`, too), or without
 abbrev pub check_words : App
 check_words =
-    with_rule (with_rule (with_rule (with_rule (with_file (codes "check")) port_word) within_word)
-    (flag_word (codes "routes"))) (flag_word (codes "settings"))
+    with_rule (with_rule (with_rule (with_rule (with_rule (with_file (codes "check")) port_word)
+    within_word) (flag_word (codes "routes"))) (flag_word (codes "settings")))
+    (letter_word (codes "quiet") 113)
 
 -- the options of `speak` that `judge` hasn't
 abbrev pub with_speaking : App → App

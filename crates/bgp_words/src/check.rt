@@ -1,8 +1,9 @@
 //! The words of `check`.
 
-ghost use Rattle.std.specs.Prelude.{◌≡◌, ℕ, Bool, List, IfOk, IsErr, false, codes};
+ghost use Rattle.std.specs.Prelude.{◌≡◌, ℕ, List, IfOk, IsErr, false, codes};
 ghost use Rattle.clap.specs.Words.{app_of, found_of, rows_of};
 ghost use Rattle.clap.specs.declared.builder.command.Command.TheViews.{out-Command as fields_of};
+ghost use Rattle.bgp_words.specs.declared.check.Checking.{Checking as TheChecking};
 ghost use Rattle.bgp_words.specs.Words.{check_words};
 ghost use Rattle.bgp_words.specs.Import.{IsChecking};
 ghost use Rattle.bgp_words.specs.Spelled.{NamesBy};
@@ -23,16 +24,16 @@ capture of MRT records. What is configured is read off the OPEN that an end sent
 doesn't say is left free.
 
 For each connection at --port in a recording:
-  connection 1: 192.0.2.2:40000 to 192.0.2.1:179 at 2017-07-14 02:40:00 UTC, packet 1, octets ..
+  connection 1: 192.0.2.2:40000 to 192.0.2.1:179 at 2017-07-14 02:40:00.133606 UTC, packet 1, ..
                         as bgp list prints it; its two ends follow, first that which opened it
   yes: 192.0.2.2:40000 (AS 65002): Established, routes from its peer: 2
                         all is allowed; the AS number of its OPEN, and the state in which it may be.
                         The line says if its peer has to have another AS number than its OPEN says
-  no at packet 8, 2017-07-14 02:40:02 UTC: 192.0.2.2:40000 (AS 65002) sent UPDATE to ..
+  no at packet 8, 2017-07-14 02:40:02.133606 UTC: 192.0.2.2:40000 (AS 65002) sent UPDATE to ..
                         no configuration that its OPEN allows explains what it did, in no order that
                         the packets allow within --within, or in one, as a note says then. The line
                         goes on with what is wrong
-  unfinished after packet 9, 2017-07-14 02:40:02 UTC: 192.0.2.2:40000 (AS 65002) has not done ..
+  unfinished after packet 9, 2017-07-14 02:40:02.133606 UTC: 192.0.2.2:40000 (AS 65002) has not ..
                         it still owes something, in one order; or in all, as a note says then
   not judged: 192.0.2.1:179 (AS unknown): the file has no message that it sent
                         why nothing can be said of it
@@ -53,6 +54,10 @@ end has a line
 with options for which judge says the same of FILE, if there are such. They are the most permissive
 configuration that the OPEN allows, and not the router's own.
 
+With -q only the ends that are a no or unfinished and what is refused are printed, each under the
+line of its connection or session. A file about which nothing of that is left prints nothing; the
+exit status says the same as without.
+
 ROUTE-REFRESH messages that their receiver's OPEN offers to read are passed over, and a note counts
 them. If a connection, a session or the file can't be read, a line says so, as those of bgp list do.
 
@@ -67,8 +72,23 @@ Exit status, the first of 5, 4, 1, 3, 2, 0 for which there is something:
 
 The manual is docs/bgp.1.md, at the top of the repository.";
 
+/// How `check` is asked for.
+#[derive(Clone, Copy, Debug, PartialEq, Eq)]
+pub struct Checking {
+    /// The port of the connections, which isn't 0.
+    pub port: u16,
+    /// How many seconds after it came a received message is handled at the latest.
+    pub within: u16,
+    /// Whether the routes of each possible end are printed.
+    pub routes: bool,
+    /// Whether the options of `judge` that say the same of an end are printed.
+    pub settings: bool,
+    /// Whether the ends that are well or not judged are left out.
+    pub quiet: bool,
+}
+
 /// The words after `check`.
-static WORDS: [Word<'static>; 5] = [
+static WORDS: [Word<'static>; 6] = [
     READ,
     PORT,
     WITHIN,
@@ -76,6 +96,11 @@ static WORDS: [Word<'static>; 5] = [
     Word::Flag(
         "settings",
         "Prints the options with which judge says the same of an end, after yes too",
+    ),
+    Word::Letter(
+        "quiet",
+        'q',
+        "Prints only what is a no, unfinished or refused",
     ),
 ];
 
@@ -95,19 +120,18 @@ pub(crate) fn check_words<'a>(alloc: Global) -> Result<clap::Command<'a>, AllocE
 pub(crate) fn check_of<'a>(check: &ArgMatches<'a>) -> Result<Command<'a>, Misfit<'a>>
     ensures ok { IfOk result (NamesBy (codes "check") (rows_of (found_of check.now))) }
     ensures err { IsErr result →
-        (port within : ℕ) (routes settings : Bool) (file : List ℕ) →
-        IsChecking port within routes settings file (rows_of (found_of check.now)) → ⊥ }
+        (checking : TheChecking) (file : List ℕ) →
+        IsChecking checking file (rows_of (found_of check.now)) → ⊥ }
 {
     let port = port_of(check, "port")?;
     let within = seconds_of(check, "within")?;
-    let routes = has_flag(check, "routes");
-    let settings = has_flag(check, "settings");
-    let file = value_of(check, "FILE")?;
-    Ok(Command::Check {
+    let checking = Checking {
         port,
         within,
-        routes,
-        settings,
-        file,
-    })
+        routes: has_flag(check, "routes"),
+        settings: has_flag(check, "settings"),
+        quiet: has_flag(check, "quiet"),
+    };
+    let file = value_of(check, "FILE")?;
+    Ok(Command::Check { checking, file })
 }

@@ -58,7 +58,7 @@ decode --names prints the same in words, with bars between the parts of a line:
   rest 3: ffffff        the octets of the unfinished message
 What doesn't have its form is in hexadecimal after the word octets, what has no name after its
 number. AS numbers have four octets unless an OPEN before them lacks capability 65. A stream has one
-direction: if the other side's OPEN lacks it, give --as2.
+direction: if the other side's OPEN lacks it, give --as2. So too where a capture lacks that OPEN.
 decode --mrt prints one line a record of the session:
   @1500000000 received keepalive
   @1500000000 sent notification 6/2 -
@@ -75,6 +75,11 @@ then the lines are those of the capture that bgp import makes of it, or
   recording refused: 14 Missing at packet 7 received octet 49
                         the reason's number and name, the packet's number from 1, and the octet's
                         place in the stream from 0
+decode --mrt --names prints the records in words, and of a recording the packets that show them:
+  @1500000000 sent notification 6/2 Cease, Administrative Shutdown: \"bye\"
+  @1500000000 packet 16 change Established to Idle
+  @1500000000 received update announced 10.3.0.0/16#1 | origin IGP | path 65002 | via 192.0.2.2
+                        after # the path identifier of a prefix, where both OPENs offer them
 With --skip-refresh a ROUTE-REFRESH that is whole has no line; standard error says how many were
 passed over. A dash stands for nothing.
 
@@ -83,7 +88,7 @@ The manual is docs/bgp.1.md, at the top of the repository.";
 /// The words after `decode`.
 static WORDS: [Word<'static>; 7] = [
     READ,
-    Word::Flag("names", "Prints a stream's messages in words"),
+    Word::Flag("names", "Prints the messages in words"),
     Word::Flag(
         "as2",
         "AS numbers in AS_PATH and AGGREGATOR have two octets, with --names",
@@ -120,8 +125,9 @@ pub(crate) fn decode_of<'a>(decode: &ArgMatches<'a>) -> Result<Command<'a>, Misf
     ensures ok { IfOk result (NamesBy (codes "decode") (rows_of (found_of decode.now))) }
     ensures no_stream { IsErr result → (form : Form) (extended : Bool) (file : List ℕ) →
         IsStream form extended file (rows_of (found_of decode.now)) → ⊥ }
-    ensures no_capture { IsErr result → (session : Session) (recording : Told) (file : List ℕ) →
-        IsCapture session recording file (rows_of (found_of decode.now)) → ⊥ }
+    ensures no_capture { IsErr result →
+        (form : Form) (session : Session) (recording : Told) (file : List ℕ) →
+        IsCapture form session recording file (rows_of (found_of decode.now)) → ⊥ }
 {
     if has_flag(decode, "mrt") {
         capture_of(decode)
@@ -134,15 +140,11 @@ pub(crate) fn decode_of<'a>(decode: &ArgMatches<'a>) -> Result<Command<'a>, Misf
 fn capture_of<'a>(decode: &ArgMatches<'a>) -> Result<Command<'a>, Misfit<'a>>
     requires { is_given (codes "mrt") (rows_of (found_of decode.now)) ≡ true }
     ensures ok { IfOk result (NamesBy (codes "decode") (rows_of (found_of decode.now))) }
-    ensures err { IsErr result → (session : Session) (recording : Told) (file : List ℕ) →
-        IsCapture session recording file (rows_of (found_of decode.now)) → ⊥ }
+    ensures err { IsErr result →
+        (form : Form) (session : Session) (recording : Told) (file : List ℕ) →
+        IsCapture form session recording file (rows_of (found_of decode.now)) → ⊥ }
 {
-    if has_flag(decode, "names") {
-        return Err(Misfit::NamesInCapture);
-    }
-    if has_flag(decode, "as2") {
-        return Err(Misfit::As2WithoutNames);
-    }
+    let form = form_of(decode)?;
     let file = value_of(decode, "FILE")?;
     let peer = address_of(decode, "peer")?;
     let local = address_of(decode, "local")?;
@@ -154,6 +156,7 @@ fn capture_of<'a>(decode: &ArgMatches<'a>) -> Result<Command<'a>, Misfit<'a>>
     };
     let recording = recording_of(decode)?;
     Ok(Command::Capture {
+        form,
         session,
         recording,
         file,

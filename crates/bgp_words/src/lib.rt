@@ -24,4 +24,5 @@ mod usage;
 mod values;
 mod words;
 
+pub use check::Checking;
 pub use words::{Command, command_line};

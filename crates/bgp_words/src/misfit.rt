@@ -120,8 +120,6 @@ pub(crate) enum Misfit<'a> {
     SkipsInStream,
     /// AS numbers are to have two octets, and the lines aren't to be in words.
     As2WithoutNames,
-    /// The lines of a session's records are to be in words.
-    NamesInCapture,
     /// The value of an option isn't what it wants.
     Value {
         /// The option's name.
@@ -182,9 +180,6 @@ impl Display for Misfit<'_> {
             ),
             Misfit::As2WithoutNames => f.write_str(
                 "--as2 wants --names: without it no AS path is read",
-            ),
-            Misfit::NamesInCapture => f.write_str(
-                "--names doesn't go with --mrt yet: it is for raw streams only",
             ),
             Misfit::Value { name, word, wanted } => {
                 write!(f, "--{name} wants {wanted}, and {word:?} is none")

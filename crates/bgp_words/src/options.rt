@@ -3,7 +3,7 @@
 ghost use Rattle.std.specs.Prelude.{◌≡◌, IfOk, fold, false};
 ghost use Rattle.clap.specs.Words.{app_of, rule_of};
 ghost use Rattle.clap.specs.declared.builder.command.Command.TheViews.{out-Command as fields_of};
-ghost use Rattle.bgp_words.specs.Words.{file_word, flag_word, option_word};
+ghost use Rattle.bgp_words.specs.Words.{file_word, flag_word, letter_word, option_word};
 ghost use Rattle.bgp_words.specs.Words.{required_word, default_word};
 ghost use Rattle.bgp_words.specs.Options.{AddsWord, rule_by, with_word};
 
@@ -17,6 +17,8 @@ pub(crate) enum Word<'a> {
     File(&'a str, &'a str),
     /// A flag: its name and its help.
     Flag(&'a str, &'a str),
+    /// A flag that has a letter, too: its name, that letter and its help.
+    Letter(&'a str, char, &'a str),
     /// An option with a value: its name and its help.
     Option(&'a str, &'a str),
     /// An option that has to be given: its name and its help.
@@ -67,6 +69,7 @@ fn arg_of<'a>(alloc: Global, word: Word<'a>) -> Arg<'a>
     match word {
         Word::File(name, help) => file(alloc, name, help),
         Word::Flag(name, help) => flag(alloc, name, help),
+        Word::Letter(name, short, help) => letter(alloc, name, short, help),
         Word::Option(name, help) => option(alloc, name, help),
         Word::Required(name, help) => required(alloc, name, help),
         Word::Default(name, value, help) => default(alloc, name, value, help),
@@ -90,6 +93,14 @@ fn flag<'a>(alloc: Global, name: &'a str, help: &'a str) -> Arg<'a>
         .long(name)
         .action(ArgAction::SetTrue)
         .help(help)
+}
+
+/// A flag by its name and its letter.
+fn letter<'a>(alloc: Global, name: &'a str, letter: char, help: &'a str) -> Arg<'a>
+    ensures rule { rule_of result ≡ letter_word name.entry.now letter }
+    ensures local { result.global ≡ false }
+{
+    flag(alloc, name, help).short(letter)
 }
 
 /// An option with a value, by its name.

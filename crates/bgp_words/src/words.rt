@@ -16,7 +16,7 @@ ghost use Rattle.bgp_words.specs.Spelled.{IsDecodeOrMemory, IsJudgeOrMemory, IsF
 ghost use Rattle.bgp_words.specs.Spelled.{fault_rows, value_rows};
 ghost use Rattle.bgp_import.specs.declared.options.RecordingOptions.{RecordingOptions as Told};
 
-use crate::check::{check_of, check_words};
+use crate::check::{Checking, check_of, check_words};
 use crate::decode::{decode_of, decode_words};
 use crate::import::{import_of, import_words};
 use crate::judge::{judge_of, judge_words};
@@ -50,6 +50,8 @@ pub enum Command<'a> {
     /// Print the records of one session, one a line: those in a capture, or those that are made of
     /// one connection in a recording.
     Capture {
+        /// How the lines are written.
+        form: LineForm,
         /// The session's ends, and whether the local system offers extended messages; it has no
         /// route refresh, or its messages are passed over.
         session: Session,
@@ -91,14 +93,8 @@ pub enum Command<'a> {
     /// Check both ends of each connection in a recording, or of each session in a capture, whose
     /// settings aren't known.
     Check {
-        /// The port of the connections, which isn't 0.
-        port: u16,
-        /// How many seconds after it came a received message is handled at the latest.
-        within: u16,
-        /// Whether the routes of each possible end are printed.
-        routes: bool,
-        /// Whether the options of `judge` that say the same of an end are printed after a yes too.
-        settings: bool,
+        /// How they are checked, and what is printed.
+        checking: Checking,
         /// The file's path, or `-` for standard input.
         file: &'a str,
     },

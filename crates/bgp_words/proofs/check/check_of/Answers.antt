@@ -7,8 +7,9 @@ returns-clause-ok c = (
   (
     (c.in_ok-port.ensures c.in_ok-port.port).0 refl,
     (c.in_ok-within.ensures c.in_ok-within.within).0 refl,
-    c.has_flag-routes.ensures,
-    c.has_flag-settings.ensures,
+    c.has_flag.ensures,
+    c.has_flag-2.ensures,
+    c.has_flag-3.ensures,
     c.in_ok-file.ensures.ok,
   ),
 )

@@ -2,13 +2,14 @@ use Rattle.std.proofs.Common.{◌≡◌, ◌∙◌, ap, codes}
 use Rattle.std.proofs.lemmas.Result.{IfOk-weaker}
 use Rattle.clap.specs.Words.{App, app_of, new_app, with_rule}
 use Rattle.clap.specs.Simple.{app_of_fields}
-use Rattle.bgp_words.specs.Words.{file_word, flag_word, port_word, within_word}
+use Rattle.bgp_words.specs.Words.{file_word, flag_word, letter_word, port_word, within_word}
 use Rattle.bgp_words.proofs.check.check_words.Goals as goal
 
 abbrev words : App → App
 words check =
-    with_rule (with_rule (with_rule (with_rule (with_rule check (file_word (codes "FILE"))) port_word)
-    within_word) (flag_word (codes "routes"))) (flag_word (codes "settings"))
+    with_rule (with_rule (with_rule (with_rule (with_rule (with_rule check (file_word (codes "FILE")))
+    port_word) within_word) (flag_word (codes "routes"))) (flag_word (codes "settings")))
+    (letter_word (codes "quiet") 113)
 
 pub returns-clause-words : goal.returns-clause-words
 returns-clause-words c =
