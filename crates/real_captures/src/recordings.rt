@@ -1,7 +1,8 @@
 //! The captures of real routers' sessions that lie in the folder where the program runs.
 
+use bgp_lines::LineForm;
 use bgp_prefix::{Address, RouteRefresh, Session};
-use bgp_tool::decode_capture;
+use bgp_tool::{SessionOptions, decode_capture};
 use mrt::{FromRead, FromWrite, Reader};
 use std::io::BufReader;
 use std::rt::Files;
@@ -81,6 +82,10 @@ fn print_capture<R: Files + Print + AllocGlobal>(rt: &R, name: &str) -> io::Resu
     let mut source = FromRead::new(BufReader::new(rt.alloc(), fs::open(rt, name)?)?);
     let mut sink = FromWrite::new(io::writer(rt));
     let mut reader = Reader::new(rt.alloc());
-    let status = decode_capture(&mut reader, &session_of(name), &mut source, &mut sink);
+    let options = SessionOptions {
+        session: session_of(name),
+        form: LineForm::Plain,
+    };
+    let status = decode_capture(&mut reader, &options, &mut source, &mut sink);
     println!(rt; "status {status}")
 }

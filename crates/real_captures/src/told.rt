@@ -14,7 +14,9 @@ use crate::devices::{Given, Paper};
 use bgp_compact::CompactTracker;
 use bgp_explain::{JudgedCapture, LeftOut, Report, judge_opened};
 use bgp_judge::{PlainTracker, Tracker};
-use bgp_tool::{Note, StreamOptions, decode_opened, decode_opened_capture, passed_over};
+use bgp_tool::{
+    Note, SessionOptions, StreamOptions, decode_opened, decode_opened_capture, passed_over,
+};
 use bgp_wire::Limit;
 use bgp_words::{Command, command_line};
 use mrt::{FromWrite, SkippedRecords};
@@ -111,8 +113,12 @@ fn ended<'a, T: Tracker<Global>>(
                 left_out,
             }
         }
-        Command::Capture { session, .. } => {
-            let outcome = decode_opened_capture(alloc, session, file, opened, &mut sink);
+        Command::Capture { form, session, .. } => {
+            let options = SessionOptions {
+                session: *session,
+                form: *form,
+            };
+            let outcome = decode_opened_capture(alloc, &options, file, opened, &mut sink);
             JudgedCapture {
                 outcome,
                 confederation,

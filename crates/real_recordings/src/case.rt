@@ -102,9 +102,10 @@ pub(crate) fn compare<R: Print + AllocGlobal>(rt: &R, case: &Case<'_>) -> io::Re
 }
 
 /// How many verdicts of `bgp check` are those of `bgp judge` with the options that `--settings`
-/// prints: `None` where one of them isn't.
+/// prints: `None` where one of them isn't. Those of a case that is quiet stand in another, too.
 fn judged_again(alloc: Global, case: &Case<'_>, file: &File<'_>) -> io::Result<Option<u64>> {
-    if !case.words.starts_with("check") || case.shows == Shows::FirstColumn {
+    let is_quiet = case.words.contains("--quiet");
+    if !case.words.starts_with("check") || is_quiet || case.shows == Shows::FirstColumn {
         return Ok(Some(0));
     }
     if case.words.contains("--settings") {

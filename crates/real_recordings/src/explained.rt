@@ -34,49 +34,43 @@ fn capture_of(alloc: Global, talk: &Talk, recording: &File<'_>) -> io::Result<Op
     }
 }
 
-/// The line without the place that it names: a packet of a recording, a record of its capture. A
-/// recording's first line names both, and keeps the record.
+/// The line without the place and the time that it names. A recording has a packet and its time, to
+/// fractions of a second, and its capture a record and the second at which it was handled. The
+/// first line of a reason keeps the number of its record.
 fn around_place(line: &str) -> (&str, &str) {
     if line.starts_with(">   record ") {
-        return without_packet(line);
+        return (before(line, ", "), behind(line, " UTC: "));
     }
-    if names_place(line) {
-        let (front, rest) = without_number(line, "record ");
-        return if rest.is_empty() {
-            without_number(line, "packet ")
-        } else {
-            (front, rest)
-        };
+    if line.starts_with(">   last received: ") {
+        return (">   last received: ", behind(behind(line, ", "), ", "));
+    }
+    if line.starts_with(">   state: ") {
+        return (before(line, " since "), "");
+    }
+    if line.starts_with(">   note: it had sent ") {
+        return (before(line, " already, at "), "");
     }
     (line, "")
 }
 
-/// Whether a line of a reason names the place of a record in its middle.
-fn names_place(line: &str) -> bool {
-    line.starts_with(">   state: ")
-        || line.starts_with(">   last received: ")
-        || line.starts_with(">   note: it had sent ")
-}
-
-/// The line around the first number after such a word, if it has such a word.
-fn without_number<'a>(line: &'a str, word: &str) -> (&'a str, &'a str) {
+/// What stands before the first of these in a line: all of it, if there is none.
+fn before<'a>(line: &'a str, word: &str) -> &'a str {
     match line.split_once(word) {
-        Some((front, rest)) => (front, rest.trim_start_matches(|c: char| c.is_ascii_digit())),
-        None => (line, ""),
+        Some((front, _)) => front,
+        None => line,
     }
 }
 
-/// The line around the packet that shows its record, if it names one.
-fn without_packet(line: &str) -> (&str, &str) {
-    let (front, rest) = line.split_once(", ").unwrap_or((line, ""));
-    match rest.strip_prefix("packet ") {
-        Some(after) => (front, after.split_once(", ").unwrap_or(("", after)).1),
-        None => (front, rest),
+/// What stands behind the first of these in a line: nothing, if there is none.
+fn behind<'a>(line: &'a str, word: &str) -> &'a str {
+    match line.split_once(word) {
+        Some((_, rest)) => rest,
+        None => "",
     }
 }
 
-/// Whether a line of a connection's answer is its capture's, but for packets. A capture has one
-/// order of its messages: what is a no over all is one in that, too.
+/// Whether a line of a connection's answer is its capture's, but for packets and times. A capture
+/// has one order of its messages: what is a no over all is one in that, too.
 fn is_same_line(line: &str, known: &str) -> bool {
     if line.starts_with("> no at packet ") {
         return known.starts_with("> no at record ");
@@ -94,8 +88,8 @@ fn is_of_captures(line: &str) -> bool {
         || line.starts_with(">   note: a sent message may be missing ")
 }
 
-/// Whether a connection's answer is its capture's, but for packets, for what is told of a recording
-/// besides, and for what is of captures alone.
+/// Whether a connection's answer is its capture's, but for packets and times, for what is told of a
+/// recording besides, and for what is of captures alone.
 fn is_same(answer: &str, known: &str) -> bool {
     let mut known = known.lines().filter(|line| !is_of_captures(line));
     for line in answer.lines().filter(|line| !line.starts_with("note ")) {

@@ -6,7 +6,7 @@ use bgp_lines::LineForm;
 use bgp_open::{ConfigParts, Families, RouteOffer};
 use bgp_prefix::{Address, RouteRefresh, Session};
 use bgp_talk::{Speaking, Start};
-use bgp_words::{Command, command_line};
+use bgp_words::{Checking, Command, command_line};
 use std::alloc::{AllocError, Global};
 use std::fmt::{Display, Write};
 use std::io;
@@ -88,10 +88,11 @@ fn put_command(text: &mut String, command: &Command<'_>) -> Result<(), AllocErro
             write!(text, "decode{form}{extended} {file:?}")
         }
         Command::Capture {
+            form,
             session,
             recording,
             file,
-        } => put_capture(text, session, recording, file),
+        } => put_capture(text, *form, session, recording, file),
         Command::Judge {
             config,
             recording,
@@ -105,13 +106,7 @@ fn put_command(text: &mut String, command: &Command<'_>) -> Result<(), AllocErro
             out,
         } => put_import(text, session, recording, file, out),
         Command::List { port, file } => write!(text, "list port {port} file {file:?}"),
-        Command::Check {
-            port,
-            within,
-            routes,
-            settings,
-            file,
-        } => put_check(text, (*port, *within), *routes, *settings, file),
+        Command::Check { checking, file } => put_check(text, checking, file),
         Command::Speak {
             config,
             speaking,
@@ -124,11 +119,13 @@ fn put_command(text: &mut String, command: &Command<'_>) -> Result<(), AllocErro
 /// Puts what `decode --mrt` is told.
 fn put_capture(
     text: &mut String,
+    form: LineForm,
     session: &Session,
     recording: &RecordingOptions,
     file: &str,
 ) -> Result<(), AllocError> {
-    text.push_str("capture ")?;
+    let form = form_text(form);
+    write!(text, "capture{form} ")?;
     put_ends(text, session)?;
     put_unusual(text, recording)?;
     write!(text, " file {file:?}")
@@ -164,18 +161,14 @@ fn put_import(
 }
 
 /// Puts what `check` is told.
-fn put_check(
-    text: &mut String,
-    (port, within): (u16, u16),
-    routes: bool,
-    settings: bool,
-    file: &str,
-) -> Result<(), AllocError> {
-    let routes = if routes { " routes" } else { "" };
-    let settings = if settings { " settings" } else { "" };
+fn put_check(text: &mut String, checking: &Checking, file: &str) -> Result<(), AllocError> {
+    let Checking { port, within, .. } = *checking;
+    let routes = if checking.routes { " routes" } else { "" };
+    let settings = if checking.settings { " settings" } else { "" };
+    let quiet = if checking.quiet { " quiet" } else { "" };
     write!(
         text,
-        "check port {port} within {within}{routes}{settings} file {file:?}"
+        "check port {port} within {within}{routes}{settings}{quiet} file {file:?}"
     )
 }
 

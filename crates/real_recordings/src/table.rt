@@ -16,7 +16,7 @@ enum Kind {
     Prefixes,
 }
 
-static TABLES: [(&str, Kind); 13] = [
+static TABLES: [(&str, Kind); 14] = [
     ("cases.txt", Kind::Cases),
     ("judged.txt", Kind::Cases),
     ("explained.txt", Kind::Cases),
@@ -28,6 +28,7 @@ static TABLES: [(&str, Kind); 13] = [
     ("slow.txt", Kind::Cases),
     ("orders.txt", Kind::FirstColumn),
     ("options.txt", Kind::Cases),
+    ("names.txt", Kind::Cases),
     ("words.txt", Kind::CommandLines),
     ("announced.txt", Kind::Prefixes),
 ];
