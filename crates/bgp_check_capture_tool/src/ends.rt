@@ -144,8 +144,8 @@ fn put_front<W: Sink>(
     so_far.with_unjudged()
 }
 
-/// Puts the own line of the session between these addresses, which has these records in the file, if
-/// it isn't put yet.
+/// Puts the own line of the session between these addresses, which has these records in the file,
+/// if it isn't put yet.
 pub(crate) fn put_heading<W: Sink>(
     lines: &mut Lines<'_, W>,
     addresses: Addresses,

@@ -30,8 +30,10 @@ use std::alloc::Allocator;
 /// each possible end, of a no and an unfinished why it is so, and, of one that is all of its
 /// session, with which options `bgp judge` gives it; or why it isn't judged. After them stands why
 /// the session's next record is refused, if one is, and after all sessions why the file can't be
-/// read on, if it can't; last how many ends there are of each verdict. It answers the exit status
-/// over all ends, the first of 5, 4, 1, 3, 2, 0 for which there is something:
+/// read on, if it can't; last how many ends there are of each verdict. If only what isn't well is
+/// printed (`quiet`), it leaves out the ends that are a yes or not judged, the line of a session of
+/// which nothing else is left, and the last line, if it would stand alone. It answers the exit
+/// status over all ends, the first of 5, 4, 1, 3, 2, 0 for which there is something:
 ///
 /// * 0: a yes.
 /// * 1: a no.

@@ -27,9 +27,10 @@ pub fn no_verdict_is_vacuous()
     what_is_judged_is_a_stretch();
 }
 
-/// Without the lines of a session's ends, why its next record is refused, and the line that counts
-/// the ends, what [`check_capture`](crate::check_capture) prints of a capture is what `bgp list`
-/// does: a line a session, and then why the file isn't read to its end, if it isn't.
+/// If nothing is left out (`quiet`): without the lines of a session's ends, why its next record is
+/// refused, and the line that counts the ends, what [`check_capture`](crate::check_capture) prints
+/// of a capture is what `bgp list` does: a line a session, and then why the file isn't read to its
+/// end, if it isn't.
 pub fn without_its_ends_it_is_the_list()
     ensures { ListIsWithoutEnds }
 {}

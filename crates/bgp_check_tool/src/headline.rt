@@ -17,11 +17,11 @@ use std::alloc::Allocator;
 /// this one: whether its messages are those of a run of the session machine (RFC 4271, 8.2.2) under
 /// some configuration under which the OPEN that it sent is its own.
 ///
-/// **The sentence.** If the lines of an end begin with `no at packet P`, and no note says that this is
-/// one possible order, packet P is the first that shows some message of the end's, and no order that
-/// the packets allow has a run that explains this message and all that the end sent before it. That
-/// is so under every configuration under which the end's OPEN is its own, and if each message is
-/// handled within D seconds after it came (`--within`).
+/// **The sentence.** If the lines of an end begin with `no at packet P`, and no note says that this
+/// is one possible order, packet P is the first that shows some message of the end's, and no order
+/// that the packets allow has a run that explains this message and all that the end sent before it.
+/// That is so under every configuration under which the end's OPEN is its own, and if each message
+/// is handled within D seconds after it came (`--within`).
 ///
 /// If the note is there, the same is known of one of these orders: no such configuration has a run
 /// that shows the end's records in it up to one that packet P shows. In both cases some such
@@ -30,21 +30,24 @@ use std::alloc::Allocator;
 ///
 /// If they begin with `yes`, some run under such a configuration shows just the end's records in
 /// one of these orders. Each state in which such a run can end is listed, and no other. It is the
-/// order that `bgp import` makes, or another one, and then a note says so. That is the clause `yes`.
-/// If they begin with `unfinished after packet P`, packet P shows the last record, no run under such
-/// a configuration shows just the end's records in the order that is made, and some run shows more.
-/// Or no run shows just those of any order that the packets allow, and in one of them some run
-/// explains all that the end sent: then a note says so. That is the clause `unfinished`. All that is
-/// printed is tied to the packets, so that no other line passes for one of these.
+/// order that `bgp import` makes, or another one, and then a note says so. That is the clause
+/// `yes`. If they begin with `unfinished after packet P`, packet P shows the last record, no run
+/// under such a configuration shows just the end's records in the order that is made, and some run
+/// shows more. Or no run shows just those of any order that the packets allow, and in one of them
+/// some run explains all that the end sent: then a note says so. That is the clause `unfinished`.
+/// All that is printed is tied to the packets, so that no other line passes for one of these.
 ///
 /// It writes a line for each connection, in the order of their first packets. After it come the
 /// reports on both ends, first on the one that opened the connection: the verdict; for a yes each
-/// state in which the session may stand, for a no what was done and what is wrong with it, and for a
-/// no and an unfinished why it is so; and the `bgp judge` command that gives the verdict. Or the
-/// report says why the end isn't judged. Then it writes why the file can't be read on, if it can't, that memory was refused for a
-/// list of the connections, if it was, and that the file was cut short, if it was; last how many
-/// ends there are of each verdict. It answers the exit status over all ends, the first of 5, 4, 1,
-/// 3, 2, 0 for which there is something:
+/// state in which the session may stand, for a no what was done and what is wrong with it, and for
+/// a no and an unfinished why it is so; and the `bgp judge` command that gives the verdict. Or the
+/// report says why the end isn't judged. Then it writes why the file can't be read on, if it can't,
+/// that memory was refused for a list of the connections, if it was, and that the file was cut
+/// short, if it was; last how many ends there are of each verdict. If only what isn't well is
+/// printed (`quiet`), it leaves out the ends that are a yes or not judged, the line of a connection
+/// of which nothing else is left, that the file was cut short, and the last line, if it would stand
+/// alone. It answers the exit status over all ends, the first of 5, 4, 1, 3, 2, 0 for which there
+/// is something:
 ///
 /// * 0: a yes.
 /// * 1: a no.

@@ -79,9 +79,9 @@ pub fn each_of_them_is_told()
 /// States that without the lines of its ends, what [`check_recording`](crate::check_recording)
 /// prints of the connections is the list of the recording: each connection, and each pair of
 /// addresses whose packets can't be read, has just the line that `bgp list` has of it, in the same
-/// order, and there are no others. So it is if memory isn't refused for anything. What
-/// `check_recording` prints after the connections (that the file is cut short, how many ends there
-/// are) is no part of this.
+/// order, and there are no others. So it is if nothing is left out (`quiet`), and memory isn't
+/// refused for anything. What `check_recording` prints after the connections (that the file is cut
+/// short, how many ends there are) is no part of this.
 pub fn without_its_ends_it_is_the_list()
     ensures lines { ListIsWithoutEnds }
     ensures all { HeadingsAreTheList }
