@@ -13,7 +13,7 @@ use bgp_text::Lines;
 use mrt::Sink;
 
 /// Returns the name of an attribute, if it has one.
-fn name_of_attribute(kind: u8) -> Option<&'static str>
+pub fn name_of_attribute(kind: u8) -> Option<&'static str>
     ensures { option_map (λ (name : Bor (List ℕ)). name.now) result
         ≡ name_in attribute_names kind }
 {

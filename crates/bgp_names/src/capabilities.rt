@@ -12,7 +12,7 @@ use bgp_text::Lines;
 use mrt::Sink;
 
 /// Returns the name of a capability, if it has one.
-fn name_of_capability(code: u8) -> Option<&'static str>
+pub fn name_of_capability(code: u8) -> Option<&'static str>
     ensures { option_map (λ (name : Bor (List ℕ)). name.now) result
         ≡ name_in capability_names code }
 {

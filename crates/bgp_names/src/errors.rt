@@ -14,7 +14,7 @@ use bgp_text::Lines;
 use mrt::Sink;
 
 /// Returns the name of an error code, if it has one.
-fn name_of_code(code: u8) -> Option<&'static str>
+pub fn name_of_code(code: u8) -> Option<&'static str>
     ensures { option_map (λ (name : Bor (List ℕ)). name.now) result ≡ name_in code_names code }
 {
     Some(match code {
@@ -129,7 +129,7 @@ fn name_of_refresh_error(subcode: u8) -> Option<&'static str>
 }
 
 /// Returns the name of a subcode of this error code, if it has one.
-fn name_of_subcode(code: u8, subcode: u8) -> Option<&'static str>
+pub fn name_of_subcode(code: u8, subcode: u8) -> Option<&'static str>
     ensures { option_map (λ (name : Bor (List ℕ)). name.now) result
         ≡ name_in (subcode_names code) subcode }
 {
@@ -145,7 +145,7 @@ fn name_of_subcode(code: u8, subcode: u8) -> Option<&'static str>
 }
 
 /// Checks whether the subcode says something: it has a name, or isn't 0.
-fn has_subcode(code: u8, subcode: u8) -> bool
+pub fn has_subcode(code: u8, subcode: u8) -> bool
     ensures { result ≡ has_subcode code subcode }
 {
     name_of_subcode(code, subcode).is_some() || subcode != 0

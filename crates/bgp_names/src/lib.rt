@@ -20,9 +20,14 @@ mod messages;
 mod naming;
 mod states;
 
-pub use attributes::{name_of_origin, name_of_segment, put_attribute_name, put_attribute_word};
-pub use capabilities::{name_of_role, name_of_way, put_capability_name};
-pub use errors::{put_code_name, put_error_name, put_short_error_name, put_subcode_name};
+pub use attributes::{
+    name_of_attribute, name_of_origin, name_of_segment, put_attribute_name, put_attribute_word,
+};
+pub use capabilities::{name_of_capability, name_of_role, name_of_way, put_capability_name};
+pub use errors::{
+    has_subcode, name_of_code, name_of_subcode, put_code_name, put_error_name,
+    put_short_error_name, put_subcode_name,
+};
 pub use families::{families_name, put_afi_name, put_family_name};
 pub use laws::{
     each_attribute_has_its_name, each_capability_has_its_name, each_error_has_its_name,
@@ -30,4 +35,4 @@ pub use laws::{
     each_state_has_its_name,
 };
 pub use messages::put_type_text;
-pub use states::put_state_name;
+pub use states::{name_of_state, put_state_name};

@@ -11,7 +11,7 @@ use bgp_text::Lines;
 use mrt::Sink;
 
 /// Returns the name of a state, by its number in captures (RFC 6396, 4.4.1), if it has one.
-fn name_of_state(number: u16) -> Option<&'static str>
+pub fn name_of_state(number: u16) -> Option<&'static str>
     ensures { option_map (λ (name : Bor (List ℕ)). name.now) result ≡ name_in state_names number }
 {
     Some(match number {

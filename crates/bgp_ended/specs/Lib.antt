@@ -1,0 +1,10 @@
+-- In reading order.
+pub mod Values
+pub mod FirstOpen
+pub mod Offered
+pub mod Notified
+pub mod Outline
+pub mod Once
+pub mod HowText
+pub mod Stretch
+pub mod EndedLine
