@@ -20,7 +20,7 @@ use Rattle.mrt.proofs.OneReading.{one_spelling, one_text as one_reading}
 use Rattle.bgp_machine.specs.declared.fsm.Fsm.{Fsm}
 use Rattle.bgp_machine.specs.declared.fsm.Fsm.TheVariants as fsms
 use Rattle.bgp_machine.specs.Going.{fsm_at}
-use Rattle.bgp_judge.specs.Verdict.{HasOneVerdict, Yes, No, Unfinished}
+use Rattle.bgp_judge.specs.Verdict.{HasOneVerdict, VerdictValue, Yes, No, Unfinished}
 use Rattle.bgp_reason.specs.declared.kinds.Possible.{Possible}
 use Rattle.bgp_reason.specs.declared.told.Told.{Told}
 use Rattle.bgp_reason.specs.Sending.{sending_link}
@@ -51,6 +51,8 @@ use Rattle.bgp_explain.specs.declared.moments.Moments.{Moments}
 use Rattle.bgp_explain.specs.declared.moments.SentNotification.{SentNotification}
 use Rattle.bgp_explain.specs.declared.skipped.Skipped.{Skipped}
 use Rattle.bgp_explain.specs.declared.why.Why.{Why}
+use Rattle.bgp_explain.specs.Laws.{HasOneReason}
+use Rattle.bgp_explain.specs.Records.{SaysOfRecords}
 use Rattle.bgp_explain.specs.Capture.{HasOneText, IsAtFault, SaysExplained, SaysMore, TellsWhy, TellsWhyNot, judge_style}
 use Rattle.bgp_explain.specs.Deed.{IsDeedOn}
 use Rattle.bgp_explain.specs.Lacked.{Lacked, RecordLacks, lacked_cause}
@@ -391,3 +393,16 @@ one_text sets allowed law verdict config octets records also text other status c
     let (first, equal) = verdict config octets records records says.first there.first status code spells says.says spells there.says in
     let more = one_more sets config law records skipped each says.first there.first status code says.says there.says says.more there.more says.explains there.explains in
     (says.whole ∙ (λ i. first i ++ more i) ∙ sym there.whole, equal)
+
+-- ---- of records, wherever they stand
+
+pub one_reason : SubcodesAreSets → EachAllowed → HasOneReason
+one_reason sets allowed config style places octets records verdict more also spells h k = told verdict h k where
+  each : EachIsCaptured config records
+  each = subst (EachIsCaptured config) (sym spells.shown) (each_captured config allowed None spells.pieces spells.text.each)
+
+  told : (v : VerdictValue) → SaysOfRecords config style config.parts.session places records v more → SaysOfRecords config style config.parts.session places records v also → more ≡ also
+  told (Yes ends) a b = a ∙ sym b
+  told (No count) a b =
+      one_why_not sets config style config.parts.session places (take count records) (take (count + 1) records) more also (first_captured config count records each) a b
+  told Unfinished a b = one_why sets config style config.parts.session None places records None more also each a b

@@ -1,19 +1,23 @@
 -- What is told of a no: which records could have stood in the place of the first impossible one,
--- and what this lacks of them.
+-- and what this lacks of them. And that a reason is one text.
 use Rattle.std.specs.Prelude.{◌≡◌, ◌↔◌, ◌<◌, ◌+◌, ◌^◌, ◌++◌, ℕ, List, [], ◌∷◌, Option, None}
 use Rattle.std.specs.Prelude.{IsTrue, take}
 use Rattle.bgp_prefix.specs.Shown.{ShownRecord, Received}
+use Rattle.mrt.specs.Capture.{Spells}
 use Rattle.bgp_open.specs.declared.config.Config.{Config}
 use Rattle.bgp_open.specs.declared.link.Link.{Link}
 use Rattle.bgp_machine.specs.Run.{Begins}
-use Rattle.bgp_judge.specs.Verdict.{HasVerdict, No}
+use Rattle.bgp_judge.specs.Verdict.{HasVerdict, VerdictValue, No}
 use Rattle.bgp_parts.specs.NotificationParts.{HasNoPart}
 use Rattle.bgp_parts.specs.OwnOpenParts.{LacksNothing}
 use Rattle.bgp_reason.specs.declared.kinds.Possible.{Possible}
 use Rattle.bgp_reason.specs.Possible.{ArePossible, IsAmong, IsCapturable}
 use Rattle.bgp_reason.specs.Sending.{sending_link}
 use Rattle.bgp_why.specs.NotWhole.{IsWhyNotSent}
+use Rattle.bgp_why.specs.declared.place.Place.{Place}
+use Rattle.bgp_why.specs.declared.style.Style.{Style}
 use Rattle.bgp_explain.specs.Lacked.{Lacked, Nothing, Open, Update, Notification, RecordLacks}
+use Rattle.bgp_explain.specs.Records.{SaysOfRecords}
 
 -- Of records whose verdict is a no, after so many, and of what is possible there.
 module _ (config : Config) (records : List ShownRecord) (count : ℕ) (possible : Possible) where
@@ -74,3 +78,16 @@ NamesWhatLacks =
     → IsWhyNotSent (sending_link config records) shown None
     → RecordLacks config (sending_link config records) possible shown lacked
     → IsItemThere possible lacked → ¬ NamesNothing lacked
+
+-- ---- how it is told
+
+-- What explains a verdict on records that a capture can hold is one text, wherever they stand and
+-- in whichever style: two that explain it are equal.
+abbrev pub HasOneReason : Type 0
+HasOneReason =
+    (config : Config) (style : Style) (places : ℕ → ℕ → Place) (octets : List ℕ)
+    (records : List ShownRecord) (verdict : VerdictValue) (more also : List ℕ)
+    → Spells config.parts.session octets records
+    → SaysOfRecords config style config.parts.session places records verdict more
+    → SaysOfRecords config style config.parts.session places records verdict also
+    → more ≡ also

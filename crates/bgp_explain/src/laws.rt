@@ -3,7 +3,8 @@
 ghost use Rattle.std.specs.Prelude.{◌≤◌, length};
 ghost use Rattle.bgp_explain.specs.Capture.{HasOneText};
 ghost use Rattle.bgp_explain.specs.LastReceived.{LastReceivedIsTold};
-ghost use Rattle.bgp_explain.specs.Laws.{CouldHaveStood, NamesWhatLacks, TellsWhatIsOwed};
+ghost use Rattle.bgp_explain.specs.Laws.{CouldHaveStood, HasOneReason, NamesWhatLacks};
+ghost use Rattle.bgp_explain.specs.Laws.{TellsWhatIsOwed};
 
 use bgp_judge::records_have_just_one_verdict;
 use bgp_open::{Config, Link};
@@ -64,5 +65,14 @@ pub fn each_verdict_is_explained_in_one_way()
     each_capture_has_one_verdict();
     each_record_is_allowed();
     records_have_just_one_verdict();
+    subcodes_are_sets();
+}
+
+/// What explains a verdict on records is one text, wherever they stand and in whichever style. So
+/// each line of it is determined by the configuration, the records and their places.
+pub fn each_reason_has_one_text()
+    ensures { HasOneReason }
+{
+    each_record_is_allowed();
     subcodes_are_sets();
 }

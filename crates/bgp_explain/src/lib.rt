@@ -39,7 +39,7 @@ pub use explained::{Explained, Impossible, Reason, Totals};
 pub use headline::{explain_capture, explained_as_judged};
 pub use kept::KeptRecord;
 pub use laws::{
-    a_no_at_a_message_tells_what_is_owed, a_no_names_what_lacks,
+    a_no_at_a_message_tells_what_is_owed, a_no_names_what_lacks, each_reason_has_one_text,
     each_verdict_is_explained_in_one_way, the_last_message_is_told, what_could_have_stood_is_told,
 };
 pub use left_out::LeftOut;

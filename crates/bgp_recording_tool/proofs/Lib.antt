@@ -12,6 +12,7 @@ pub mod Tellings
 mod ToldAlike
 mod ByNoOrder
 mod UnfinishedSo
-mod SameVerdict
+pub mod SameVerdict
+mod OneReason
 mod YesShown
 mod EntryLines

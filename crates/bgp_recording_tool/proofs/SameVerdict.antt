@@ -17,13 +17,13 @@ use Rattle.bgp_recording_tool.specs.Connections.{IsJudged}
 use Rattle.bgp_recording_tool.specs.Found.{Found}
 use Rattle.bgp_recording_tool.specs.Laws.{RecordingsAreExplainedAsJudged}
 
-records_by : (entries : List Entry) → records_of entries ≡ map (λ (n : Numbered). n.shown) (map numbered_of entries)
+pub records_by : (entries : List Entry) → records_of entries ≡ map (λ (n : Numbered). n.shown) (map numbered_of entries)
 records_by [] = refl
 records_by (e ∷ later) = ap (λ (rs : List ShownRecord). shown_of e.«record» ∷ rs) (records_by later)
 
 module _ (config : Config) (wanted : Import) (packets : List Recorded) (segments : List Segment) (number : Option ℕ)
     (taken : AreTaken wanted.selection 0 packets segments) where
-  by_packets : (named : Option ℕ) (verdict : VerdictValue) (found : Found) (remarks : List Remark)
+  pub by_packets : (named : Option ℕ) (verdict : VerdictValue) (found : Found) (remarks : List Remark)
       → (j : IsJudged config wanted packets segments number named verdict found remarks)
       → IsMadeOfPackets wanted number packets j.entries j.notes
   by_packets named verdict found remarks j = record { segments = segments; connection = j.connection; taken = taken; answered = j.chosen; made = j.made }

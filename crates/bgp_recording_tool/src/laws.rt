@@ -4,10 +4,12 @@
 ghost use Rattle.bgp_recording_tool.specs.Decoding.{PlainLines};
 ghost use Rattle.bgp_recording_tool.specs.Laws.{MadeCouldHaveStood};
 ghost use Rattle.bgp_recording_tool.specs.Laws.{RecordingsAreExplainedAsJudged};
+ghost use Rattle.bgp_recording_tool.specs.Laws.{RecordingsAreExplainedInOneWay};
 
-use bgp_explain::what_could_have_stood_is_told;
+use bgp_explain::{each_reason_has_one_text, what_could_have_stood_is_told};
 use bgp_import::recordings_are_made_once;
 use bgp_judge::records_have_just_one_verdict;
+use bgp_recording::made_records_are_read;
 
 /// Of a connection that is explained as a no it is told which records could have stood in the place
 /// of the first impossible of its made records: each of those that are told, and no other.
@@ -22,6 +24,19 @@ pub fn made_records_could_have_stood()
 pub fn recordings_are_explained_as_judged()
     ensures { RecordingsAreExplainedAsJudged }
 {
+    recordings_are_made_once();
+    records_have_just_one_verdict();
+}
+
+/// What explains the verdict on a connection is one text, and so each line of it is determined by
+/// the configuration and the packets. It says so of a reason that memory was not refused for, and
+/// of what is found over all orders, if both find the same. If that is the yes of another order, it
+/// says so of one order.
+pub fn each_recording_is_explained_in_one_way()
+    ensures { RecordingsAreExplainedInOneWay }
+{
+    each_reason_has_one_text();
+    made_records_are_read();
     recordings_are_made_once();
     records_have_just_one_verdict();
 }
