@@ -16,7 +16,7 @@ use std::alloc::Global;
 use streams::{Closing, End, Side};
 
 /// A NOTIFICATION: Malformed Attribute List (RFC 4271, 6.3).
-const MALFORMED_LIST: [u8; 21] = [
+pub(crate) const MALFORMED_LIST: [u8; 21] = [
     255, 255, 255, 255, 255, 255, 255, 255, 255, 255, 255, 255, 255, 255, 255, 255, 0, 21, 3, 3, 1,
 ];
 
@@ -198,7 +198,7 @@ const KEEPALIVE_5_AT_115: Message<'static> = Message {
     micro: None,
 };
 
-const MALFORMED_LIST_AT_103: Message<'static> = Message {
+pub(crate) const MALFORMED_LIST_AT_103: Message<'static> = Message {
     octets: &MALFORMED_LIST,
     kind: Some(MessageType::Notification),
     packet: 10,
@@ -206,7 +206,7 @@ const MALFORMED_LIST_AT_103: Message<'static> = Message {
     micro: None,
 };
 
-const MALFORMED_LIST_AT_113: Message<'static> = Message {
+pub(crate) const MALFORMED_LIST_AT_113: Message<'static> = Message {
     octets: &MALFORMED_LIST,
     kind: Some(MessageType::Notification),
     packet: 10,

@@ -4,6 +4,8 @@
 #![tactic(auto)]
 
 #[cfg(test)]
+mod all_ways;
+#[cfg(test)]
 mod connections;
 #[cfg(test)]
 mod explained;
