@@ -1,0 +1,10 @@
+pub mod Adding
+pub mod Objects
+pub mod Texts
+pub mod ItemJson
+pub mod Octets
+pub mod CapabilityJson
+pub mod AttributeJson
+pub mod RoutesJson
+pub mod Unicast
+pub mod ErrorJson
