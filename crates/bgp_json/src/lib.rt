@@ -1,0 +1,27 @@
+//! The messages of a session as JSON, as `bgp decode --json` prints them: an object a line.
+//!
+//! An object determines the octets of its message. What has a value ([`bgp_values`]) is put by it;
+//! the octets stand beside it if it doesn't say all of them.
+//!
+//! Each line is made in memory before it is put. If memory is refused, nothing of it is put.
+#![tactic(auto)]
+
+mod faults;
+mod line;
+mod members;
+mod message;
+mod open;
+mod others;
+mod place;
+mod record;
+mod teller;
+mod update;
+
+pub use faults::put_json_fault;
+pub use message::put_json_frame;
+pub use others::{
+    put_json_capture_refusal, put_json_change, put_json_recording_refusal, put_json_rest,
+};
+pub use place::{Place, RecordPlace};
+pub use record::put_json_message;
+pub use teller::JsonTeller;

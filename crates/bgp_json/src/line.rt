@@ -1,0 +1,42 @@
+//! The line of an object.
+
+ghost use Rattle.std.specs.Prelude.{◌≡◌, ◌≤◌, [], OnOk};
+ghost use Rattle.json.specs.Json.{Json, max_depth};
+ghost use Rattle.json.specs.Tree.{depth, json_tokens};
+ghost use Rattle.bgp_json.specs.Line.{PutsLine};
+ghost use Rattle.bgp_json.specs.Object.{json_line};
+
+use bgp_text::Lines;
+use json::Writer;
+use mrt::Sink;
+use std::alloc::{AllocError, Allocator};
+
+/// Starts what an object is written to.
+pub(crate) fn start<A: Allocator>(alloc: A) -> Writer<A>
+    ensures before { result.before ≡ [] }
+    ensures tokens { result.tokens ≡ [] }
+{
+    Writer::new(Vec::new(alloc))
+}
+
+/// Puts the line of what was written, or nothing if memory was refused for it.
+#[tactic(auto, unfolding(crate::specs::Object::json_line))]
+pub(crate) fn put_written<A: Allocator, W: Sink>(
+    lines: &mut Lines<'_, W>,
+    writer: Writer<A>,
+    written: Result<(), AllocError>,
+) -> Result<(), AllocError>
+    requires { OnOk written (writer.before ≡ []) }
+    ensures { (value : Json) → OnOk written (writer.tokens ≡ json_tokens value)
+        → depth value ≤ max_depth → PutsLine result lines.old lines.new (json_line value) }
+{
+    match written {
+        Ok(()) => {
+            let text = writer.into_inner();
+            lines.put(text.as_slice());
+            lines.put(b"\n");
+            Ok(())
+        }
+        Err(fault) => Err(fault),
+    }
+}
