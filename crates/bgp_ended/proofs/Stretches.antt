@@ -1,5 +1,5 @@
 -- Records of a stretch, one by one: up to the first NOTIFICATION, or to the last.
-use Rattle.std.proofs.Common.{◌≡◌, ◌∙◌, ◌+◌, ◌<◌, ◌≤◌, ◌++◌, ℕ, suc, List, [], ◌∷◌, Option, None, Some, IfNone, IfSome, sym, ap, subst, arith, drop, get_or, length, map, take}
+use Rattle.std.proofs.Common.{◌≡◌, ◌∙◌, ◌+◌, ◌<◌, ◌≤◌, ◌++◌, ℕ, suc, List, [], ◌∷◌, Option, None, Some, IfNone, IfSome, sym, ap, subst, arith, drop, get_or, length, map, option_map, take}
 use Rattle.std.proofs.Math.Seq.{drop-cons}
 use Rattle.std.proofs.lemmas.List.{length-map, length-take-le, map-append, take-append-drop, take_all, take_more}
 use Rattle.std.specs.List.{AllByRecursion, IsLastAndRest}
@@ -7,10 +7,9 @@ use Rattle.bgp_prefix.specs.Shown.{ShownRecord, Received, Sent, Changed, second_
 use Rattle.mrt.specs.Reader.{shown_of}
 use Rattle.mrt.specs.declared.record.Record.{Record}
 use Rattle.streams.specs.declared.passed.Side.{Side}
-use Rattle.bgp_ended.specs.declared.ended.How.{How}
-use Rattle.bgp_ended.specs.declared.ended.How.TheVariants.{Notified, Closed, Fallen}
 use Rattle.bgp_ended.specs.declared.stretch.EndedStretch.{EndedStretch}
-use Rattle.bgp_ended.specs.Stretch.{EndsAs, HasNoEnd, IsEnd, IsEndOf, ShowsError, ShowsNoError, StaysUp}
+use Rattle.bgp_ended.specs.Values.{HowValue, Notified, Closed, Fallen, how_value}
+use Rattle.bgp_ended.specs.Stretch.{EndedStretchValue, EndsAs, HasNoEnd, IsEnd, IsEndOf, ShowsError, ShowsNoError, StaysUp, ended_stretch_value}
 
 -- ---- each has it so far
 
@@ -42,7 +41,7 @@ pub none_at_all : (records : List Record) (i : ℕ) → length records ≤ i →
 none_at_all records i past none = subst (λ ys. AllByRecursion ShowsNoError (map shown_of ys)) (take_all i records past) none
 
 -- who shows one ended the stretch by it
-ends_by : (how : How) (side : Side) (shown : ShownRecord) (behind : List ShownRecord) → ShowsError shown side how → EndsAs how side shown behind
+ends_by : (how : HowValue) (side : Side) (shown : ShownRecord) (behind : List ShownRecord) → ShowsError shown side how → EndsAs how side shown behind
 ends_by (Notified error) side shown behind shows = shows
 ends_by (Closed closing) side (Received second octets) behind shows = shows.1
 ends_by (Closed closing) side (Sent second octets) behind shows = shows.1
@@ -51,7 +50,7 @@ ends_by (Fallen state) side (Received second octets) behind shows = absurd shows
 ends_by (Fallen state) side (Sent second octets) behind shows = absurd shows.1
 ends_by (Fallen state) side (Changed second old new) behind shows = absurd shows
 
-pub ended_at : (records : List Record) (i : ℕ) (d : Record) (ended : EndedStretch) → i < length records → AllByRecursion ShowsNoError (map shown_of (take i records))
+pub ended_at : (records : List Record) (i : ℕ) (d : Record) (ended : EndedStretchValue) → i < length records → AllByRecursion ShowsNoError (map shown_of (take i records))
     → ended.before ≡ i → ended.second ≡ second_of (shown_of (get_or records i d)) → ShowsError (shown_of (get_or records i d)) ended.by ended.how → IsEnd (map shown_of records) ended
 ended_at records i d ended within none before second shows = record {
   front = map shown_of (take i records);
@@ -69,7 +68,7 @@ ended_at records i d ended within none before second shows = record {
 last_whole : (records front : List Record) (last : Record) → IsLastAndRest records last front → map shown_of records ≡ map shown_of front ++ shown_of last ∷ []
 last_whole records front last is = ap (map shown_of) is.0 ∙ map-append shown_of front (last ∷ [])
 
-fallen_end : (records front : List Record) (last : Record) (ended : EndedStretch) → IsLastAndRest records last front → AllByRecursion ShowsNoError (map shown_of records)
+fallen_end : (records front : List Record) (last : Record) (ended : EndedStretchValue) → IsLastAndRest records last front → AllByRecursion ShowsNoError (map shown_of records)
     → ended.before ≡ length front → ended.second ≡ second_of (shown_of last) → EndsAs ended.how ended.by (shown_of last) [] → IsEnd (map shown_of records) ended
 fallen_end records front last ended is none before second ends =
     let whole = last_whole records front last is in
@@ -101,10 +100,10 @@ no_end records front last is none stays = record {
 
 -- what is found of the last one is found of all
 pub last_decides : (records front : List Record) (last : Record) (found : Option EndedStretch) → IsLastAndRest records last front → AllByRecursion ShowsNoError (map shown_of records)
-    → IfSome found (λ ended. (ended.before ≡ length front) × (ended.second ≡ second_of (shown_of last)) × EndsAs ended.how ended.by (shown_of last) [])
-    → IfNone found (StaysUp (shown_of last)) → IsEndOf (map shown_of records) found
+    → IfSome found (λ ended. (ended.before ≡ length front) × (ended.second ≡ second_of (shown_of last)) × EndsAs (how_value ended.how) ended.by (shown_of last) [])
+    → IfNone found (StaysUp (shown_of last)) → IsEndOf (map shown_of records) (option_map ended_stretch_value found)
 last_decides records front last None is none some stays = no_end records front last is none stays
-last_decides records front last (Some ended) is none some stays = fallen_end records front last ended is none some.0 some.1 some.2
+last_decides records front last (Some ended) is none some stays = fallen_end records front last (ended_stretch_value ended) is none some.0 some.1 some.2
 
 none_last : {X : Type 0} (xs : List X) (x : X) → [] ≡ xs ++ x ∷ [] → ⊥
 none_last [] x e = cc

@@ -6,14 +6,13 @@ use Rattle.hex.specs.Hex.{encode_lower}
 use Rattle.streams.specs.declared.connection.Closing.{Closing}
 use Rattle.streams.specs.declared.connection.Closing.TheVariants.{Fin, Reset}
 use Rattle.bgp_names.specs.States.{state_name}
-use Rattle.bgp_values.specs.ErrorData.{DataValue, ErrorFields, cause_of, data_value, error_of}
+use Rattle.bgp_values.specs.ErrorData.{DataValue, ErrorFields, cause_of, data_value}
 use Rattle.bgp_values.specs.Readable.{text_in}
 use Rattle.bgp_lines.specs.Notifications.{error_data_text}
 use Rattle.bgp_lines.specs.Quoting.{quoted_text}
 use Rattle.bgp_why_parts.specs.Codes.{full_code_text}
 use Rattle.bgp_why_parts.specs.Cut.{cut}
-use Rattle.bgp_ended.specs.declared.ended.How.{How}
-use Rattle.bgp_ended.specs.declared.ended.How.TheVariants.{Notified, Closed, Fallen}
+use Rattle.bgp_ended.specs.Values.{HowValue, Notified, Closed, Fallen}
 
 -- ---- the data of a NOTIFICATION
 
@@ -65,7 +64,7 @@ abbrev pub closing_text : Closing → List ℕ
 closing_text Fin = codes "FIN, no NOTIFICATION"
 closing_text Reset = codes "RST, no NOTIFICATION"
 
-unfoldable pub how_text : How → List ℕ
-how_text (Notified notification) = codes "NOTIFICATION " ++ error_text (error_of notification)
+unfoldable pub how_text : HowValue → List ℕ
+how_text (Notified error) = codes "NOTIFICATION " ++ error_text error
 how_text (Closed closing) = closing_text closing
 how_text (Fallen state) = state_name state ++ codes " to Idle, no NOTIFICATION"

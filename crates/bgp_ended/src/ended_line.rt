@@ -3,6 +3,8 @@
 ghost use Rattle.bgp_text.specs.Lines.{Writes};
 ghost use Rattle.bgp_ended.specs.EndedLine.{ended_line, ended_stretch_line, who_and_how_text};
 ghost use Rattle.bgp_ended.specs.EndedLine.{who_text};
+ghost use Rattle.bgp_ended.specs.Stretch.{ended_stretch_value};
+ghost use Rattle.bgp_ended.specs.Values.{ended_value, how_value};
 
 use crate::ended::{Ended, How};
 use crate::how_text::put_how;
@@ -15,7 +17,7 @@ use mrt::Sink;
 
 /// Who ended it, if that is said.
 fn put_who<W: Sink>(lines: &mut Lines<'_, W>, how: How<'_>, by: &Endpoint)
-    ensures { Writes lines.old lines.new (who_text how.entry by.now) }
+    ensures { Writes lines.old lines.new (who_text (how_value how.entry) by.now) }
 {
     match how {
         How::Notified(_) | How::Closed(_) => {
@@ -28,7 +30,7 @@ fn put_who<W: Sink>(lines: &mut Lines<'_, W>, how: How<'_>, by: &Endpoint)
 
 /// Who ended it, and how.
 fn put_who_and_how<W: Sink>(lines: &mut Lines<'_, W>, how: How<'_>, by: &Endpoint)
-    ensures { Writes lines.old lines.new (who_and_how_text how.entry by.now) }
+    ensures { Writes lines.old lines.new (who_and_how_text (how_value how.entry) by.now) }
 {
     put_who(lines, how, by);
     lines.put(b": ");
@@ -44,7 +46,7 @@ pub fn put_ended<W: Sink>(
     by: &Endpoint,
     ended: &Ended<'_>,
 )
-    ensures { Writes lines.old lines.new (ended_line first by.now ended.now) }
+    ensures { Writes lines.old lines.new (ended_line first by.now (ended_value ended.now)) }
 {
     lines.put(b"  ended at packet ");
     lines.put_decimal(ended.moment.packet);
@@ -63,7 +65,8 @@ pub fn put_ended_stretch<W: Sink>(
     by: &Endpoint,
     ended: &EndedStretch<'_>,
 )
-    ensures { Writes lines.old lines.new (ended_stretch_line first number by.now ended.now) }
+    ensures { Writes lines.old lines.new
+        (ended_stretch_line first number by.now (ended_stretch_value ended.now)) }
 {
     lines.put(b"  ended at record ");
     lines.put_decimal(number);

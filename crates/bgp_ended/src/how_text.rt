@@ -10,6 +10,7 @@ ghost use Rattle.bgp_why_parts.specs.Cut.{cut};
 ghost use Rattle.bgp_ended.specs.HowText.{caused_text, closing_text, detail_text, error_text};
 ghost use Rattle.bgp_ended.specs.HowText.{how_text, is_control, plain_error_text, raw_by};
 ghost use Rattle.bgp_ended.specs.HowText.{raw_text, sentence_in, with_data_text};
+ghost use Rattle.bgp_ended.specs.Values.{how_value};
 
 use crate::ended::How;
 use bgp_lines::{put_error_data, put_quoted};
@@ -176,7 +177,7 @@ fn put_closing<W: Sink>(lines: &mut Lines<'_, W>, closing: Closing)
 /// ```
 #[tactic(auto, unfolding(crate::specs::HowText::how_text))]
 pub fn put_how<W: Sink>(lines: &mut Lines<'_, W>, how: How<'_>)
-    ensures { Writes lines.old lines.new (how_text how.entry) }
+    ensures { Writes lines.old lines.new (how_text (how_value how.entry)) }
 {
     match how {
         How::Notified(error) => {

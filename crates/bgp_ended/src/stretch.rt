@@ -1,11 +1,12 @@
 //! How a stretch of a session in a capture ended.
 
-ghost use Rattle.std.specs.Prelude.{◌≡◌, IfSome, IfNone, [], map};
+ghost use Rattle.std.specs.Prelude.{◌≡◌, IfSome, IfNone, [], map, option_map};
 ghost use Rattle.std.specs.List.{AllByRecursion};
 ghost use Rattle.mrt.specs.Reader.{shown_of};
 ghost use Rattle.bgp_prefix.specs.Shown.{second_of};
 ghost use Rattle.bgp_ended.specs.Stretch.{EndsAs, IsEndOf, IsErrorOf, IsNoError, ShowsError};
-ghost use Rattle.bgp_ended.specs.Stretch.{ShowsNoError, StaysUp};
+ghost use Rattle.bgp_ended.specs.Stretch.{ShowsNoError, StaysUp, ended_stretch_value};
+ghost use Rattle.bgp_ended.specs.Values.{how_value};
 
 use crate::ended::How;
 use bgp_open::read_notification;
@@ -34,7 +35,7 @@ pub struct EndedStretch<'a> {
 /// NOTIFICATION.
 fn notified_by(before: usize, second: Seconds, by: Side, octets: &[u8]) -> Option<EndedStretch<'_>>
     ensures some { IfSome result (λ ended. (ended.before ≡ before) × (ended.second ≡ second)
-        × (ended.by ≡ by) × IsErrorOf ended.how octets.entry.now) }
+        × (ended.by ≡ by) × IsErrorOf (how_value ended.how) octets.entry.now) }
     ensures none { IfNone result (IsNoError octets.entry.now) }
 {
     match read_notification(octets) {
@@ -52,7 +53,7 @@ fn notified_by(before: usize, second: Seconds, by: Side, octets: &[u8]) -> Optio
 fn notified_at(before: usize, shown: Record<'_>) -> Option<EndedStretch<'_>>
     ensures some { IfSome result (λ ended. (ended.before ≡ before)
         × (ended.second ≡ second_of (shown_of shown.entry))
-        × ShowsError (shown_of shown.entry) ended.by ended.how) }
+        × ShowsError (shown_of shown.entry) ended.by (how_value ended.how)) }
     ensures none { IfNone result (ShowsNoError (shown_of shown.entry)) }
 {
     match shown {
@@ -66,7 +67,7 @@ fn notified_at(before: usize, shown: Record<'_>) -> Option<EndedStretch<'_>>
 fn fallen_at(before: usize, shown: Record<'_>) -> Option<EndedStretch<'_>>
     ensures some { IfSome result (λ ended. (ended.before ≡ before)
         × (ended.second ≡ second_of (shown_of shown.entry))
-        × EndsAs ended.how ended.by (shown_of shown.entry) []) }
+        × EndsAs (how_value ended.how) ended.by (shown_of shown.entry) []) }
     ensures none { IfNone result (StaysUp (shown_of shown.entry)) }
 {
     match shown {
@@ -83,7 +84,7 @@ fn fallen_at(before: usize, shown: Record<'_>) -> Option<EndedStretch<'_>>
 /// The end by the last one of records that show no NOTIFICATION, if it is a change to Idle.
 fn fallen_in<'a>(records: &[Record<'a>]) -> Option<EndedStretch<'a>>
     requires { AllByRecursion ShowsNoError (map shown_of records.now) }
-    ensures { IsEndOf (map shown_of records.now) result }
+    ensures { IsEndOf (map shown_of records.now) (option_map ended_stretch_value result) }
 {
     let (last, front) = records.split_last()?;
     fallen_at(front.len(), *last)
@@ -93,7 +94,7 @@ fn fallen_in<'a>(records: &[Record<'a>]) -> Option<EndedStretch<'a>>
 /// whole NOTIFICATION, sent or received; without one by the last record, if that is a change to
 /// Idle.
 pub fn ended_in<'a>(records: &[Record<'a>]) -> Option<EndedStretch<'a>>
-    ensures { IsEndOf (map shown_of records.now) result }
+    ensures { IsEndOf (map shown_of records.now) (option_map ended_stretch_value result) }
 {
     for (before, shown) in records.iter().enumerate() {
         match notified_at(before, *shown) {
