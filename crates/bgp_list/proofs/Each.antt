@@ -19,9 +19,7 @@ use Rattle.bgp_import.specs.Talks.{IsRefusedAt}
 use Rattle.bgp_import.proofs.Alone.{alone, apart, none_at_refusal, one_place, refused_alone, same_taken, taken_not_refused}
 use Rattle.bgp_import.proofs.ListedSoFar.{place_of}
 use Rattle.bgp_list.specs.EachListed.{EachConnectionIsListed, EachRefusalIsListed, HasLineOf}
-use Rattle.bgp_list.specs.Lines.{IsLineAt, IsLineOfOne}
-use Rattle.bgp_list.specs.declared.line.Line.{Line}
-use Rattle.bgp_list.specs.declared.line.Line.TheVariants.{Octets, Refused, AllRefused}
+use Rattle.bgp_list.specs.Lines.{IsLineAt, IsLineOfOne, LineValue, Octets, Refused, AllRefused}
 
 -- ---- lists
 
@@ -43,9 +41,9 @@ keyed (e ∷ es) (suc k) place lt is =
 
 -- ---- all are listed
 
-module _ (port last_packet : ℕ) (packets : List Recorded) (lines : List (ℕ × Line)) (known : AreKnown packets) where
+module _ (port last_packet : ℕ) (packets : List Recorded) (lines : List (ℕ × LineValue)) (known : AreKnown packets) where
   -- a connection and the line at its first packet
-  line_of_one : (q : Addresses) (segments : List Segment) (number place : ℕ) (session : Session) (opening : Opening) (line : Line) → AreOrdered q
+  line_of_one : (q : Addresses) (segments : List Segment) (number place : ℕ) (session : Session) (opening : Opening) (line : LineValue) → AreOrdered q
       → AreTaken (selection_of q port) 0 packets segments → IsNumber segments number → place ≡ first_packet (connection_in segments number)
       → IsLineOfOne port packets last_packet place session opening line
       → (opening.number ≡ number) × OpensAs (connection_in segments number) opening × (session ≡ session_of q)
@@ -59,10 +57,10 @@ module _ (port last_packet : ℕ) (packets : List Recorded) (lines : List (ℕ �
         told.is_session ∙ ap session_of same.0,
       )
 
-  has_line : (q : Addresses) (segments : List Segment) (number place : ℕ) (line : Line) → AreOrdered q → AreTaken (selection_of q port) 0 packets segments
+  has_line : (q : Addresses) (segments : List Segment) (number place : ℕ) (line : LineValue) → AreOrdered q → AreTaken (selection_of q port) 0 packets segments
       → IsNumber segments number → place ≡ first_packet (connection_in segments number) → Contains lines (place, line)
       → IsLineAt port packets last_packet place line → HasLineOf lines q segments number
-  has_line q segments number place (Octets session opening first second) is taken is_number there among told =
+  has_line q segments number place (Octets session opening outline first second) is taken is_number there among told =
       let (same, opens, its) = line_of_one q segments number place session opening _ is taken is_number there told in
       record { place = place; line = _; among = among; opening = opening; is_number = same; opens = opens; is = (its, refl) }
   has_line q segments number place (Refused session opening refusal) is taken is_number there among told =
@@ -72,14 +70,14 @@ module _ (port last_packet : ℕ) (packets : List Recorded) (lines : List (ℕ �
       absurd (apart port packets known q addresses segments number place told.fault is told.ordered taken is_number told.refused (sym there))
 
   -- a connection doesn't begin where a packet is refused
-  not_one : (q : Addresses) (fault : PacketFault) (place : ℕ) (session : Session) (opening : Opening) (line : Line) → AreOrdered q → IsRefusedAt port packets q fault place
+  not_one : (q : Addresses) (fault : PacketFault) (place : ℕ) (session : Session) (opening : Opening) (line : LineValue) → AreOrdered q → IsRefusedAt port packets q fault place
       → IsLineOfOne port packets last_packet place session opening line → ⊥
   not_one q fault place session opening line is refused told =
       none_at_refusal port place packets told.addresses q told.segments opening fault known is told.has refused (sym told.is_place)
 
-  refused_line : (q : Addresses) (fault : PacketFault) (place : ℕ) (line : Line) → AreOrdered q → IsRefusedAt port packets q fault place
+  refused_line : (q : Addresses) (fault : PacketFault) (place : ℕ) (line : LineValue) → AreOrdered q → IsRefusedAt port packets q fault place
       → IsLineAt port packets last_packet place line → line ≡ AllRefused q (refusals.Packet fault place)
-  refused_line q fault place (Octets session opening first second) is refused told = absurd (not_one q fault place session opening _ is refused told)
+  refused_line q fault place (Octets session opening outline first second) is refused told = absurd (not_one q fault place session opening _ is refused told)
   refused_line q fault place (Refused session opening refusal) is refused told = absurd (not_one q fault place session opening _ is refused told)
   refused_line q fault place (AllRefused addresses refusal) is refused told =
       let same = refused_alone port packets known addresses q told.fault fault place told.ordered is told.refused refused in
@@ -95,7 +93,7 @@ each_connection port last_packet packets lines known told all q segments number 
       let (line, among) = keyed lines there.0 place there.1 there.2 in
       has_line port last_packet packets lines known q segments number place line is taken is_number
       (ap (λ (s : List Segment). first_packet (connection_in s number)) same) among
-      (of_one (λ (l : ℕ × Line). IsLineAt port packets last_packet l.0 l.1) lines (place, line) told among)
+      (of_one (λ (l : ℕ × LineValue). IsLineAt port packets last_packet l.0 l.1) lines (place, line) told among)
   | inr refused ↦ absurd (taken_not_refused (selection_of q port) refused.refused.front refused.refused.later packets refused.refused.packet segments refused.fault
       refused.refused.whole taken refused.refused.refused)
 ]
@@ -107,6 +105,6 @@ each_refusal port last_packet packets lines known told all q fault place is refu
       let same : theirs.place ≡ place = one_place port packets q theirs.fault fault theirs.place place theirs.refused refused in
       let there : Contains (keys_of lines) place = subst (λ (n : ℕ). Contains (keys_of lines) n) same theirs.is_place in
       let (line, among) = keyed lines there.0 place there.1 there.2 in
-      let its = of_one (λ (l : ℕ × Line). IsLineAt port packets last_packet l.0 l.1) lines (place, line) told among in
-      subst (λ (l : Line). Contains lines (place, l)) (refused_line port last_packet packets lines known q fault place line is refused its) among
+      let its = of_one (λ (l : ℕ × LineValue). IsLineAt port packets last_packet l.0 l.1) lines (place, line) told among in
+      subst (λ (l : LineValue). Contains lines (place, l)) (refused_line port last_packet packets lines known q fault place line is refused its) among
 ]

@@ -1,8 +1,9 @@
--- Lines are put one after another.
-use Rattle.std.proofs.Common.{◌≡◌, ◌∙◌, ◌++◌, ℕ, suc, List, [], ◌∷◌, Option, None, Some, Ok, Err, length, refl, sym, ap, subst, inl, inr, append-nil, append_assoc}
-use Rattle.std.proofs.lemmas.List.{map-append}
+-- Lines are made one after another, and then put.
+use Rattle.std.proofs.Common.{◌≡◌, ◌∙◌, ◌++◌, ◌+◌, ◌<◌, ◌≤◌, ℕ, suc, List, [], ◌∷◌, Option, None, Some, Ok, Err, length, map, take, get_or, refl, sym, ap, subst, inl, inr, append-nil}
+use Rattle.std.proofs.lemmas.Grind.{flat_map-append}
+use Rattle.std.proofs.lemmas.List.{length-map, map-append, take_all, take_more}
 use Rattle.std.specs.BTreeMap.{BTreeMap, IsOrdered}
-use Rattle.std.specs.List.{AllByRecursion, flat_map}
+use Rattle.std.specs.List.{AllByRecursion, Contains, flat_map}
 use Rattle.std.specs.List.Sorted.{IsStrictlySortedBy}
 use Rattle.std.specs.Map.{keys_of}
 use Rattle.std.specs.Ordering.{nat_cmp}
@@ -20,15 +21,13 @@ use Rattle.bgp_import.specs.declared.listed.Listed.{Listed}
 use Rattle.bgp_import.specs.declared.talks.Talks.{Talks}
 use Rattle.bgp_import.proofs.ListedSoFar.{among_keys}
 use Rattle.bgp_list.specs.Firsts.{firsts_after, with_first}
-use Rattle.bgp_list.specs.Lines.{IsLineAt, line_text, refusal_in}
-use Rattle.bgp_list.specs.Recording.{PutsAll, lines_text, refusals_in}
+use Rattle.bgp_list.specs.Lines.{IsLineAt, LineValue, line_text, line_value, refusal_in}
+use Rattle.bgp_list.specs.Recording.{AreLinesOf, PutsAll}
 use Rattle.bgp_list.specs.declared.line.Line.{Line}
 
-text_of : (f : ℕ × Line → List ℕ) (put : List (ℕ × Line)) (one : ℕ × Line) → flat_map f put ++ f one ≡ flat_map f (put ++ one ∷ [])
-text_of f [] one = sym (append-nil (f one))
-text_of f (b ∷ put) one = append_assoc (f b) (flat_map f put) (f one) ∙ ap (λ (rest : List ℕ). f b ++ rest) (text_of f put one)
+-- ---- lists
 
-pub firsts_more : (firsts refusals : List (Option Refusal)) (one : Option Refusal) → with_first (firsts_after firsts refusals) one ≡ firsts_after firsts (refusals ++ one ∷ [])
+firsts_more : (firsts refusals : List (Option Refusal)) (one : Option Refusal) → with_first (firsts_after firsts refusals) one ≡ firsts_after firsts (refusals ++ one ∷ [])
 firsts_more firsts [] one = refl
 firsts_more firsts (refusal ∷ later) one = firsts_more (with_first firsts refusal) later one
 
@@ -51,34 +50,126 @@ pub without_keys : {X : Type 0} (xs : List (ℕ × X)) → keys_of xs ≡ [] →
 without_keys [] none = refl
 without_keys (x ∷ xs) none = absurd (one_key x xs none)
 
--- the lines of the first entries are put, and these are left
-pub record PutsFront {T Z : Type 0} {sink : sinks.Ghosts T} (port : ℕ) (packets : List Recorded) (last_packet : ℕ) (entries rest : List (ℕ × Listed Z))
-    (lines lines' : Lines T sink) (firsts firsts' : List (Option Refusal)) : Type 0 where
-  pub put : List (ℕ × Line)
-  pub told : AllByRecursion (λ (l : ℕ × Line). IsLineAt port packets last_packet l.0 l.1) put
-  pub places : keys_of put ++ keys_of rest ≡ keys_of entries
-  pub left : AreListed port packets rest
-  pub wrote : Writes lines lines' (lines_text put)
-  pub added : firsts' ≡ firsts_after firsts (refusals_in put)
+-- ---- lines are made
 
-pub one_more : {T Z : Type 0} {sink : sinks.Ghosts T} → Joins sink → (port : ℕ) (packets : List Recorded) (last_packet place : ℕ) (one : Listed Z) (line : Line)
-    (entries before rest : List (ℕ × Listed Z)) (lines middle lines' : Lines T sink) (firsts between firsts' : List (Option Refusal)) → before ≡ (place, one) ∷ rest
-    → PutsFront port packets last_packet entries before lines middle firsts between
-    → (IsListed port packets place one → IsLineAt port packets last_packet place line) → Writes middle lines' (line_text line) → firsts' ≡ with_first between (refusal_in line)
-    → PutsFront port packets last_packet entries rest lines lines' firsts firsts'
-one_more {T} {Z} law port packets last_packet place one line entries before rest lines middle lines' firsts between firsts' is so_far tells wrote added =
+-- the lines of the first entries are made, and these are left
+pub record MakesFront {Z : Type 0} (port : ℕ) (packets : List Recorded) (last_packet : ℕ) (entries rest : List (ℕ × Listed Z)) (lines : List LineValue) : Type 0 where
+  pub placed : List (ℕ × LineValue)
+  pub are : map (λ (l : ℕ × LineValue). l.1) placed ≡ lines
+  pub told : AllByRecursion (λ (l : ℕ × LineValue). IsLineAt port packets last_packet l.0 l.1) placed
+  pub places : keys_of placed ++ keys_of rest ≡ keys_of entries
+  pub left : AreListed port packets rest
+
+one_made : {Z : Type 0} (port : ℕ) (packets : List Recorded) (last_packet place : ℕ) (one : Listed Z) (line : LineValue) (entries before rest : List (ℕ × Listed Z)) (lines : List LineValue)
+    → before ≡ (place, one) ∷ rest → MakesFront port packets last_packet entries before lines → (IsListed port packets place one → IsLineAt port packets last_packet place line)
+    → MakesFront port packets last_packet entries rest (lines ++ line ∷ [])
+one_made {Z} port packets last_packet place one line entries before rest lines is so_far tells =
     let left : AreListed port packets ((place, one) ∷ rest) = subst (λ (es : List (ℕ × Listed Z)). AreListed port packets es) is so_far.left in
-    let places : keys_of so_far.put ++ place ∷ keys_of rest ≡ keys_of entries =
-    subst (λ (es : List (ℕ × Listed Z)). keys_of so_far.put ++ keys_of es ≡ keys_of entries) is so_far.places in
+    let places : keys_of so_far.placed ++ place ∷ keys_of rest ≡ keys_of entries =
+    subst (λ (es : List (ℕ × Listed Z)). keys_of so_far.placed ++ keys_of es ≡ keys_of entries) is so_far.places in
     record {
-      put = so_far.put ++ (place, line) ∷ [];
-      told = all_of (λ (l : ℕ × Line). IsLineAt port packets last_packet l.0 l.1) so_far.put (place, line) so_far.told (tells left.0);
-      places = keys_with so_far.put (place, line) (keys_of rest) ∙ places;
+      placed = so_far.placed ++ (place, line) ∷ [];
+      are = map-append (λ (l : ℕ × LineValue). l.1) so_far.placed ((place, line) ∷ []) ∙ ap (λ (ls : List LineValue). ls ++ line ∷ []) so_far.are;
+      told = all_of (λ (l : ℕ × LineValue). IsLineAt port packets last_packet l.0 l.1) so_far.placed (place, line) so_far.told (tells left.0);
+      places = keys_with so_far.placed (place, line) (keys_of rest) ∙ places;
       left = left.1;
-      wrote = subst (λ (text : List ℕ). Writes lines lines' text) (text_of (λ (l : ℕ × Line). line_text l.1) so_far.put (place, line)) (and_then law so_far.wrote wrote);
-      added = added ∙ ap (λ (f : List (Option Refusal)). with_first f (refusal_in line)) so_far.added ∙ firsts_more firsts (refusals_in so_far.put) (refusal_in line)
-          ∙ ap (firsts_after firsts) (sym (map-append (λ (l : ℕ × Line). refusal_in l.1) so_far.put ((place, line) ∷ [])));
     }
+
+-- the next entry is right
+pub one_left : {Z : Type 0} (port : ℕ) (packets : List Recorded) (last_packet place : ℕ) (one : Listed Z) (entries before rest : List (ℕ × Listed Z)) (lines : List LineValue)
+    → before ≡ (place, one) ∷ rest → MakesFront port packets last_packet entries before lines → IsListed port packets place one
+one_left {Z} port packets last_packet place one entries before rest lines is so_far = (subst (λ (es : List (ℕ × Listed Z)). AreListed port packets es) is so_far.left).0
+
+-- as they are held
+pub one_more : {Z : Type 0} (port : ℕ) (packets : List Recorded) (last_packet place : ℕ) (one : Listed Z) (line : Line) (entries before rest : List (ℕ × Listed Z)) (lines lines' : List Line)
+    → before ≡ (place, one) ∷ rest → MakesFront port packets last_packet entries before (map line_value lines)
+    → (IsListed port packets place one → IsLineAt port packets last_packet place (line_value line)) → lines' ≡ lines ++ line ∷ []
+    → MakesFront port packets last_packet entries rest (map line_value lines')
+one_more port packets last_packet place one line entries before rest lines lines' is so_far tells more =
+    subst (λ (ls : List LineValue). MakesFront port packets last_packet entries rest ls) (sym (ap (map line_value) more ∙ map-append line_value lines (line ∷ [])))
+    (one_made port packets last_packet place one (line_value line) entries before rest (map line_value lines) is so_far tells)
+
+-- none is made yet
+pub start_made : {Z : Type 0} (port : ℕ) (packets : List Recorded) (last_packet : ℕ) (entries first : List (ℕ × Listed Z)) (lines : List Line) → first ≡ entries → AreListed port packets entries
+    → lines ≡ [] → MakesFront port packets last_packet first first (map line_value lines)
+start_made {Z} port packets last_packet entries first lines is listed none = record {
+  placed = [];
+  are = sym (ap (map line_value) none);
+  told = tt;
+  places = refl;
+  left = subst (λ (es : List (ℕ × Listed Z)). AreListed port packets es) (sym is) listed;
+}
+
+-- all are
+pub all_made : {Z : Type 0} (port : ℕ) (packets : List Recorded) (talks : Talks Z) (last_packet : ℕ) (listed : BTreeMap ℕ (Listed Z)) (first rest : List (ℕ × Listed Z)) (lines : List LineValue)
+    → first ≡ listed.entries → rest ≡ [] → IsOrdered nat_cmp listed → (HoldsEach port packets talks → HasAll port packets (IsPlaceOf listed))
+    → MakesFront port packets last_packet first rest lines → AreLinesOf port packets talks last_packet lines
+all_made {Z} port packets talks last_packet listed first rest lines is done rises all front =
+    let whole : keys_of front.placed ≡ keys_of listed.entries =
+    sym (append-nil (keys_of front.placed)) ∙ subst (λ (es : List (ℕ × Listed Z)). keys_of front.placed ++ keys_of es ≡ keys_of first) done front.places
+    ∙ ap (λ (es : List (ℕ × Listed Z)). keys_of es) is in
+    record {
+      placed = front.placed;
+      are = front.are;
+      told = front.told;
+      rise = subst (λ (ks : List ℕ). IsStrictlySortedBy nat_cmp ks) (sym whole) rises;
+      all = λ each. subst (λ (ks : List ℕ). HasAll port packets (Contains ks)) (sym whole) (among_keys port packets listed (all each));
+    }
+
+-- ---- lines are put
+
+more_lines : (lines : List Line) (i : ℕ) (d : Line) → i < length lines → map line_value (take (i + 1) lines) ≡ map line_value (take i lines) ++ line_value (get_or lines i d) ∷ []
+more_lines lines i d within = ap (map line_value) (take_more lines i d within) ∙ map-append line_value (take i lines) (get_or lines i d ∷ [])
+
+pub text_more : {T : Type 0} {sink : sinks.Ghosts T} → Joins sink → (list : List Line) (i : ℕ) (d : Line) (old middle new : Lines T sink) → i < length list
+    → Writes old middle (flat_map line_text (map line_value (take i list))) → Writes middle new (line_text (line_value (get_or list i d)))
+    → Writes old new (flat_map line_text (map line_value (take (i + 1) list)))
+text_more law list i d old middle new within so_far one =
+    let front = map line_value (take i list) in
+    let line = line_value (get_or list i d) in
+    let text : flat_map line_text front ++ line_text line ≡ flat_map line_text (map line_value (take (i + 1) list)) =
+    ap (λ (t : List ℕ). flat_map line_text front ++ t) (sym (append-nil (line_text line))) ∙ sym (flat_map-append line_text front (line ∷ []))
+    ∙ ap (flat_map line_text) (sym (more_lines list i d within)) in
+    subst (λ (t : List ℕ). Writes old new t) text (and_then law so_far one)
+
+pub added_more : (list : List Line) (i : ℕ) (d : Line) (firsts middle new : List (Option Refusal)) → i < length list
+    → middle ≡ firsts_after firsts (map refusal_in (map line_value (take i list))) → new ≡ with_first middle (refusal_in (line_value (get_or list i d)))
+    → new ≡ firsts_after firsts (map refusal_in (map line_value (take (i + 1) list)))
+added_more list i d firsts middle new within so_far one =
+    let front = map line_value (take i list) in
+    let line = line_value (get_or list i d) in
+    one ∙ ap (λ (f : List (Option Refusal)). with_first f (refusal_in line)) so_far ∙ firsts_more firsts (map refusal_in front) (refusal_in line)
+    ∙ ap (firsts_after firsts) (sym (map-append refusal_in front (line ∷ [])) ∙ ap (map refusal_in) (sym (more_lines list i d within)))
+
+pub all_taken : (list : List Line) (i : ℕ) → length list ≤ i → map line_value (take i list) ≡ map line_value list
+all_taken list i past = ap (map line_value) (take_all i list past)
+
+texts_are : (placed : List (ℕ × LineValue)) → flat_map (λ (l : ℕ × LineValue). line_text l.1) placed ≡ flat_map line_text (map (λ (l : ℕ × LineValue). l.1) placed)
+texts_are [] = refl
+texts_are (l ∷ placed) = ap (λ (t : List ℕ). line_text l.1 ++ t) (texts_are placed)
+
+refusals_are : (placed : List (ℕ × LineValue)) → map (λ (l : ℕ × LineValue). refusal_in l.1) placed ≡ map refusal_in (map (λ (l : ℕ × LineValue). l.1) placed)
+refusals_are [] = refl
+refusals_are (l ∷ placed) = ap (λ (rs : List (Option Refusal)). refusal_in l.1 ∷ rs) (refusals_are placed)
+
+pub all_put : {T Z : Type 0} {sink : sinks.Ghosts T} (port : ℕ) (packets : List Recorded) (talks : Talks Z) (last_packet : ℕ) (list : List Line) (lines lines' : Lines T sink)
+    (firsts firsts' : List (Option Refusal)) (count : ℕ) → AreLinesOf port packets talks last_packet (map line_value list) → Writes lines lines' (flat_map line_text (map line_value list))
+    → firsts' ≡ firsts_after firsts (map refusal_in (map line_value list)) → count ≡ length list → PutsAll port packets talks last_packet lines lines' firsts firsts' (Ok count)
+all_put port packets talks last_packet list lines lines' firsts firsts' count made wrote added counted = record {
+  places = keys_of made.placed;
+  rise = made.rise;
+  puts = record {
+    put = made.placed;
+    told = made.told;
+    are_places = refl;
+    wrote = subst (λ (t : List ℕ). Writes lines lines' t) (sym (texts_are made.placed ∙ ap (flat_map line_text) made.are)) wrote;
+    added = added ∙ ap (firsts_after firsts) (sym (refusals_are made.placed ∙ ap (map refusal_in) made.are));
+  };
+  lacks = inl refl;
+  none = inl refl;
+  count = counted ∙ sym (length-map list line_value) ∙ ap length (sym made.are) ∙ length-map made.placed (λ (l : ℕ × LineValue). l.1) ∙ sym (key_count made.placed);
+  all = λ ample. made.all;
+}
 
 some_none : (r : Refusal) → Some r ≡ None → ⊥
 some_none r e = cc
@@ -86,37 +177,6 @@ some_none r e = cc
 no_keys : IsStrictlySortedBy nat_cmp []
 unfolding IsStrictlySortedBy
 no_keys = tt
-
--- none is put yet
-pub start_put : {T Z : Type 0} {sink : sinks.Ghosts T} (port : ℕ) (packets : List Recorded) (last_packet : ℕ) (entries first : List (ℕ × Listed Z)) (lines : Lines T sink)
-    (firsts : List (Option Refusal)) → first ≡ entries → AreListed port packets entries → Writes lines lines [] → PutsFront port packets last_packet first first lines lines firsts firsts
-start_put {T} {Z} port packets last_packet entries first lines firsts is listed wrote = record {
-  put = [];
-  told = tt;
-  places = refl;
-  left = subst (λ (es : List (ℕ × Listed Z)). AreListed port packets es) (sym is) listed;
-  wrote = wrote;
-  added = refl;
-}
-
--- all are
-pub all_put : {T Z : Type 0} {sink : sinks.Ghosts T} (port : ℕ) (packets : List Recorded) (talks : Talks Z) (last_packet : ℕ) (listed : BTreeMap ℕ (Listed Z))
-    (first rest : List (ℕ × Listed Z)) (lines lines' : Lines T sink) (firsts firsts' : List (Option Refusal)) (count : ℕ) → first ≡ listed.entries → rest ≡ []
-    → IsOrdered nat_cmp listed → (HoldsEach port packets talks → HasAll port packets (IsPlaceOf listed)) → count ≡ length listed.entries
-    → PutsFront port packets last_packet first rest lines lines' firsts firsts' → PutsAll port packets talks last_packet lines lines' firsts firsts' (Ok count)
-all_put {T} {Z} port packets talks last_packet listed first rest lines lines' firsts firsts' count is done rises all counted front =
-    let whole : keys_of front.put ≡ keys_of listed.entries =
-    sym (append-nil (keys_of front.put)) ∙ subst (λ (es : List (ℕ × Listed Z)). keys_of front.put ++ keys_of es ≡ keys_of first) done front.places
-    ∙ ap (λ (es : List (ℕ × Listed Z)). keys_of es) is in
-    record {
-      places = keys_of listed.entries;
-      rise = rises;
-      puts = record { put = front.put; told = front.told; are_places = whole; wrote = front.wrote; added = front.added };
-      lacks = inl refl;
-      none = inl refl;
-      count = counted ∙ sym (key_count listed.entries);
-      all = λ ample each. among_keys port packets listed (all each);
-    }
 
 pub none_put : {T Z : Type 0} {sink : sinks.Ghosts T} (port : ℕ) (packets : List Recorded) (talks : Talks Z) (last_packet : ℕ) (lines : Lines T sink) (firsts : List (Option Refusal))
     (refusal : Refusal) → Writes lines lines [] → refusal ≡ refusals.Memory last_packet → PutsAll port packets talks last_packet lines lines firsts firsts (Err refusal)

@@ -16,23 +16,21 @@ use Rattle.bgp_import.specs.Pairs.{AreOrdered, selection_of, session_of}
 use Rattle.bgp_import.specs.Places.{HasAll, IsNumber, connection_in}
 use Rattle.bgp_import.specs.Reading.{AreKnown}
 use Rattle.bgp_import.specs.Talks.{IsRefusedAt}
-use Rattle.bgp_list.specs.Lines.{IsLineAt}
-use Rattle.bgp_list.specs.declared.line.Line.{Line}
-use Rattle.bgp_list.specs.declared.line.Line.TheVariants.{Octets, Refused, AllRefused}
+use Rattle.bgp_list.specs.Lines.{IsLineAt, LineValue, Octets, Refused, AllRefused}
 
 -- the line is that of the connection that was opened so
-abbrev pub IsOfConnection : Line → Session → Opening → Type 0
-IsOfConnection (Octets its its_opening first second) session opening =
+abbrev pub IsOfConnection : LineValue → Session → Opening → Type 0
+IsOfConnection (Octets its its_opening outline first second) session opening =
     (its ≡ session) × (its_opening ≡ opening)
 IsOfConnection (Refused its its_opening refusal) session opening =
     (its ≡ session) × (its_opening ≡ opening)
 IsOfConnection (AllRefused addresses refusal) session opening = ⊥
 
 -- one of the lines is that of the connection of this number of these segments
-pub record HasLineOf (lines : List (ℕ × Line)) (addresses : Addresses) (segments : List Segment)
-    (number : ℕ) : Type 0 where
+pub record HasLineOf (lines : List (ℕ × LineValue)) (addresses : Addresses)
+    (segments : List Segment) (number : ℕ) : Type 0 where
   pub place : ℕ
-  pub line : Line
+  pub line : LineValue
   pub among : Contains lines (place, line)
   pub opening : Opening
   pub is_number : opening.number ≡ number
@@ -43,8 +41,9 @@ pub record HasLineOf (lines : List (ℕ × Line)) (addresses : Addresses) (segme
 -- each connection, and one that of each two addresses for which a packet is refused.
 abbrev pub EachConnectionIsListed : Type 0
 EachConnectionIsListed =
-    (port last_packet : ℕ) (packets : List Recorded) (lines : List (ℕ × Line)) → AreKnown packets
-    → AllByRecursion (λ (l : ℕ × Line). IsLineAt port packets last_packet l.0 l.1) lines
+    (port last_packet : ℕ) (packets : List Recorded) (lines : List (ℕ × LineValue))
+    → AreKnown packets
+    → AllByRecursion (λ (l : ℕ × LineValue). IsLineAt port packets last_packet l.0 l.1) lines
     → HasAll port packets (Contains (keys_of lines)) → (addresses : Addresses)
     (segments : List Segment) (number : ℕ) → AreOrdered addresses
     → AreTaken (selection_of addresses port) 0 packets segments → IsNumber segments number
@@ -52,8 +51,9 @@ EachConnectionIsListed =
 
 abbrev pub EachRefusalIsListed : Type 0
 EachRefusalIsListed =
-    (port last_packet : ℕ) (packets : List Recorded) (lines : List (ℕ × Line)) → AreKnown packets
-    → AllByRecursion (λ (l : ℕ × Line). IsLineAt port packets last_packet l.0 l.1) lines
+    (port last_packet : ℕ) (packets : List Recorded) (lines : List (ℕ × LineValue))
+    → AreKnown packets
+    → AllByRecursion (λ (l : ℕ × LineValue). IsLineAt port packets last_packet l.0 l.1) lines
     → HasAll port packets (Contains (keys_of lines)) → (addresses : Addresses)
     (fault : PacketFault) (place : ℕ) → AreOrdered addresses
     → IsRefusedAt port packets addresses fault place

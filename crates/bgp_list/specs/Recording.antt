@@ -24,17 +24,27 @@ use Rattle.bgp_import.specs.Wrapped.{AreCounted}
 use Rattle.bgp_import.specs.declared.talks.Talks.{Talks}
 use Rattle.bgp_list.specs.Connections.{refused_text}
 use Rattle.bgp_list.specs.Firsts.{firsts_after, with_first}
-use Rattle.bgp_list.specs.Lines.{IsLineAt, line_text, refusal_in}
-use Rattle.bgp_list.specs.declared.line.Line.{Line}
+use Rattle.bgp_list.specs.Lines.{IsLineAt, LineValue, line_text, refusal_in}
 use Rattle.bgp_list.specs.declared.listed.ListedRecording.{ListedRecording}
 
 -- ---- the lines, each with the packet at which it stands
 
-abbrev pub lines_text : List (ℕ × Line) → List ℕ
-lines_text lines = flat_map (λ (l : ℕ × Line). line_text l.1) lines
+abbrev pub lines_text : List (ℕ × LineValue) → List ℕ
+lines_text lines = flat_map (λ (l : ℕ × LineValue). line_text l.1) lines
 
-abbrev pub refusals_in : List (ℕ × Line) → List (Option Refusal)
-refusals_in lines = map (λ (l : ℕ × Line). refusal_in l.1) lines
+abbrev pub refusals_in : List (ℕ × LineValue) → List (Option Refusal)
+refusals_in lines = map (λ (l : ℕ × LineValue). refusal_in l.1) lines
+
+-- Of what is held of these packets these lines are told, in the order of their places, and all of
+-- it, if all is held.
+pub record AreLinesOf {Z : Type 0} (port : ℕ) (packets : List Recorded) (talks : Talks Z)
+    (last_packet : ℕ) (lines : List LineValue) : Type 0 where
+  pub placed : List (ℕ × LineValue)
+  pub are : map (λ (l : ℕ × LineValue). l.1) placed ≡ lines
+  pub told : AllByRecursion
+      (λ (l : ℕ × LineValue). IsLineAt port packets last_packet l.0 l.1) placed
+  pub rise : IsStrictlySortedBy nat_cmp (keys_of placed)
+  pub all : HoldsEach port packets talks → HasAll port packets (Contains (keys_of placed))
 
 -- The lines of the packets' connections were put, in the order of their places, and of the refusals
 -- in them those of each number the first were added; or none, where there was no memory for a list
@@ -42,9 +52,9 @@ refusals_in lines = map (λ (l : ℕ × Line). refusal_in l.1) lines
 pub record PutsLines {T : Type 0} {sink : sinks.Ghosts T} (port : ℕ) (packets : List Recorded)
     (last_packet : ℕ) (places : List ℕ) (lines lines' : Lines T sink)
     (firsts firsts' : List (Option Refusal)) : Type 0 where
-  pub put : List (ℕ × Line)
+  pub put : List (ℕ × LineValue)
   pub told : AllByRecursion
-      (λ (l : ℕ × Line). IsLineAt port packets last_packet l.0 l.1) put
+      (λ (l : ℕ × LineValue). IsLineAt port packets last_packet l.0 l.1) put
   pub are_places : keys_of put ≡ places
   pub wrote : Writes lines lines' (lines_text put)
   pub added : firsts' ≡ firsts_after firsts (refusals_in put)
@@ -98,9 +108,9 @@ pub record ListsRecording {S T : Type 0} (gives : S → S → List ℕ → Type 
   pub lacking : Option Refusal
   pub lacks : (lacking ≡ None)
       ⊎ (lacking ≡ Some (refusals.Memory (looked_at packets stopped)))
-  pub lines : List (ℕ × Line)
+  pub lines : List (ℕ × LineValue)
   pub told : AllByRecursion
-      (λ (l : ℕ × Line). IsLineAt port packets (looked_at packets stopped) l.0 l.1) lines
+      (λ (l : ℕ × LineValue). IsLineAt port packets (looked_at packets stopped) l.0 l.1) lines
   pub rise : IsStrictlySortedBy nat_cmp (keys_of lines)
   pub none : (lacking ≡ None) ⊎ (lines ≡ [])
   pub all : lacking ≡ None → ¬ IsMemory stopped

@@ -1,101 +1,115 @@
 //! The lines of a list.
 
-ghost use Rattle.std.specs.Prelude.{◌≡◌, List};
+ghost use Rattle.std.specs.Prelude.{◌≡◌, IfOk, List};
 ghost use Rattle.packets.specs.Packet.{Recorded};
 ghost use Rattle.streams.specs.Held.{HoldsConnections};
 ghost use Rattle.streams.specs.Passed.{Segment};
-ghost use Rattle.bgp_import.specs.Listed.{IsListed};
+ghost use Rattle.bgp_import.specs.Listed.{CanBeTold, IsListed};
+ghost use Rattle.bgp_import.specs.Talks.{AreHeld};
 ghost use Rattle.bgp_text.specs.Lines.{Writes};
 
 use crate::connection::{put_connection, put_refused_between, put_refused_connection};
+use bgp_ended::{Outline, outline_of};
 use bgp_import::{Listed, Refusal, octets_from, other_side, refused, selection_of};
 use bgp_prefix::Session;
 use bgp_text::Lines;
 use mrt::Sink;
 use segments::Addresses;
-use std::alloc::Allocator;
+use std::alloc::{AllocError, Allocator};
 use streams::{Connections, Opening};
 
 /// A line of a list.
 #[derive(Clone, Copy, Debug)]
-pub enum Line {
-    /// A connection: how many octets whoever opened it sent, and how many the other.
-    Octets(Session, Opening, usize, usize),
+pub enum Line<'a> {
+    /// A connection: what is known of it, how many octets whoever opened it sent, and how many the
+    /// other.
+    Octets(Session, Opening, Outline<'a>, usize, usize),
     /// A connection that is refused.
     Refused(Session, Opening, Refusal),
     /// Two addresses of whose connections none can be told.
     AllRefused(Addresses, Refusal),
 }
 
-impl Line {
-    ghost use Rattle.bgp_list.specs.Lines.{IsLineAt, IsLineOf, line_text, refusal_in};
+impl<'a> Line<'a> {
+    ghost use Rattle.bgp_list.specs.Lines.{IsLineAt, IsLineOf, line_text, line_value, refusal_in};
 
-    /// That of the connection of these that was opened so.
+    /// That of the connection of these that was opened so. `AllocError` is answered where there is
+    /// no memory to read its streams.
     fn of<A: Allocator + Copy>(
+        alloc: A,
         last_packet: u64,
         session: Session,
-        connections: &Connections<A>,
+        connections: &'a Connections<A>,
         opening: Opening,
-    ) -> Line
-        ensures { (segments : List Segment) → HoldsConnections segments connections.now
-            → IsLineOf last_packet segments session opening result }
+    ) -> Result<Line<'a>, AllocError>
+        requires { AreHeld connections.now }
+        ensures { (segments : List Segment) → HoldsConnections segments connections.entry.now
+            → IfOk result (λ line.
+            IsLineOf last_packet segments session opening (line_value line)) }
     {
+        let connection = match connections.choose(Some(opening.number), last_packet) {
+            Ok(connection) => connection,
+            Err(fault) => {
+                return Ok(Line::Refused(session, opening, Refusal::Connection(fault)));
+            }
+        };
+        let outline = outline_of(alloc, &connection)?;
         let from = opening.opened_by;
-        match connections.choose(Some(opening.number), last_packet) {
-            Ok(connection) => Line::Octets(
-                session,
-                opening,
-                octets_from(from, &connection),
-                octets_from(other_side(from), &connection),
-            ),
-            Err(fault) => Line::Refused(session, opening, Refusal::Connection(fault)),
-        }
+        Ok(Line::Octets(
+            session,
+            opening,
+            outline,
+            octets_from(from, &connection),
+            octets_from(other_side(from), &connection),
+        ))
     }
 
     /// That of what is listed at this packet.
     pub(crate) fn at<A: Allocator + Copy>(
+        alloc: A,
         port: u16,
         last_packet: u64,
         packet: u64,
-        listed: &Listed<'_, A>,
-    ) -> Line
+        listed: &Listed<'a, A>,
+    ) -> Result<Line<'a>, AllocError>
+        requires { CanBeTold listed.now }
         ensures { (packets : List Recorded) → IsListed port packets packet listed.now
-            → IsLineAt port packets last_packet packet result }
+            → IfOk result (λ line. IsLineAt port packets last_packet packet (line_value line)) }
     {
         match *listed {
             Listed::Connection(addresses, talk, opening) => {
                 let session = selection_of(addresses, port).session;
-                Line::of(last_packet, session, &talk.connections, opening)
+                Line::of(alloc, last_packet, session, &talk.connections, opening)
             }
             Listed::Refused(addresses, fault) => {
-                Line::AllRefused(addresses, refused(fault, packet))
+                Ok(Line::AllRefused(addresses, refused(fault, packet)))
             }
         }
     }
 
     /// The refusal in it, if there is one.
-    pub(crate) fn refusal(self) -> Option<Refusal>
-        ensures { result ≡ refusal_in self }
+    pub(crate) fn refusal(&self) -> Option<Refusal>
+        ensures { result ≡ refusal_in (line_value self.now) }
     {
-        match self {
+        match *self {
             Line::Octets(..) => None,
             Line::Refused(_, _, refusal) | Line::AllRefused(_, refusal) => Some(refusal),
         }
     }
 
     /// Puts it.
-    pub(crate) fn put<W: Sink>(self, lines: &mut Lines<'_, W>)
-        ensures { Writes lines.old lines.new (line_text self) }
+    pub(crate) fn put<W: Sink>(&self, lines: &mut Lines<'_, W>)
+        ensures { Writes lines.old lines.new (line_text (line_value self.now)) }
     {
         match self {
-            Line::Octets(session, opening, first, second) => {
-                put_connection(lines, &session, opening, first, second);
+            Line::Octets(session, opening, outline, first, second) => {
+                put_connection(lines, session, *opening, outline, *first, *second);
             }
             Line::Refused(session, opening, refusal) => {
-                put_refused_connection(lines, &session, opening, refusal);
+                put_refused_connection(lines, session, *opening, *refusal);
             }
             Line::AllRefused(addresses, refusal) => {
-                put_refused_between(lines, addresses, refusal);
+                put_refused_between(lines, *addresses, *refusal);
             }
         }
     }

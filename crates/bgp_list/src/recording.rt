@@ -1,13 +1,15 @@
 //! `bgp list` of a recording.
 
-ghost use Rattle.std.specs.Prelude.{◌≡◌, ◌<◌, List};
+ghost use Rattle.std.specs.Prelude.{◌≡◌, ◌<◌, IfOk, List, map};
+ghost use Rattle.std.specs.List.{flat_map};
 ghost use Rattle.packets.specs.Packet.{Recorded};
 ghost use Rattle.bgp_import.specs.Talks.{HoldsSome};
 ghost use Rattle.bgp_text.specs.Lines.{Writes};
 ghost use Rattle.bgp_tool.specs.Status.{code_of};
-ghost use Rattle.bgp_list.specs.Firsts.{AreApart};
-ghost use Rattle.bgp_list.specs.Recording.{ListsRecording, PutsAll, file_text, status_of};
-ghost use Rattle.bgp_list.specs.Recording.{status_over};
+ghost use Rattle.bgp_list.specs.Firsts.{AreApart, firsts_after};
+ghost use Rattle.bgp_list.specs.Lines.{line_text, line_value, refusal_in};
+ghost use Rattle.bgp_list.specs.Recording.{AreLinesOf, ListsRecording, PutsAll, file_text};
+ghost use Rattle.bgp_list.specs.Recording.{status_of, status_over};
 
 use crate::connection::put_refused;
 use crate::firsts::{NUMBERS, add_first};
@@ -19,7 +21,47 @@ use bgp_text::Lines;
 use bgp_tool::{Status, hand_over};
 use mrt::{Sink, Source};
 use packets::Reader;
-use std::alloc::Allocator;
+use std::alloc::{AllocError, Allocator};
+
+/// The lines of all that was gathered, in the order of packets. `AllocError` is answered where
+/// memory is refused for them.
+fn lines_of<'a, A: Allocator + Copy>(
+    alloc: A,
+    port: u16,
+    talks: &'a Talks<A>,
+    last_packet: u64,
+) -> Result<Vec<Line<'a>, A>, AllocError>
+    requires { (packets : List Recorded) × HoldsSome port packets talks.now }
+    ensures { (packets : List Recorded) → HoldsSome port packets talks.entry.now
+        → IfOk result (λ list. AreLinesOf port packets talks.entry.now last_packet
+        (map line_value list.items)) }
+{
+    let listed = listed_in(alloc, talks)?;
+    let mut list = Vec::new(alloc);
+    for (packet, one) in &listed {
+        let line = Line::at(alloc, port, last_packet, *packet, one)?;
+        list.push(line)?;
+    }
+    Ok(list)
+}
+
+/// Puts these lines, and adds the refusals in them.
+fn put_each<W: Sink>(
+    lines: &mut Lines<'_, W>,
+    list: &[Line<'_>],
+    refusals: &mut ArrayVec<Option<Refusal>, NUMBERS>,
+)
+    requires { AreApart refusals.old.items }
+    ensures wrote { Writes lines.old lines.new (flat_map line_text (map line_value list.now)) }
+    ensures added { refusals.new.items
+        ≡ firsts_after refusals.old.items (map refusal_in (map line_value list.now)) }
+    ensures apart { AreApart refusals.new.items }
+{
+    for line in list {
+        line.put(lines);
+        add_first(refusals, line.refusal());
+    }
+}
 
 /// Puts the lines of all that was gathered, in the order of packets, adds the refusals in them, and
 /// answers how many there are. Nothing is put, and the refusal answered, where there is no memory
@@ -32,23 +74,20 @@ fn put_all<A: Allocator + Copy, W: Sink>(
     lines: &mut Lines<'_, W>,
     refusals: &mut ArrayVec<Option<Refusal>, NUMBERS>,
 ) -> Result<usize, Refusal>
+    requires holds { (packets : List Recorded) × HoldsSome port packets talks.now }
     requires apart { AreApart refusals.old.items }
     ensures puts { (packets : List Recorded) → HoldsSome port packets talks.now
         → PutsAll port packets talks.now last_packet lines.old lines.new refusals.old.items
         refusals.new.items result }
     ensures apart { AreApart refusals.new.items }
 {
-    let Ok(listed) = listed_in(alloc, talks) else {
+    let Ok(list) = lines_of(alloc, port, talks, last_packet) else {
         return Err(Refusal::Memory {
             packet: last_packet,
         });
     };
-    for (packet, one) in &listed {
-        let line = Line::at(port, last_packet, *packet, one);
-        line.put(lines);
-        add_first(refusals, line.refusal());
-    }
-    Ok(listed.len())
+    put_each(lines, &list, refusals);
+    Ok(list.len())
 }
 
 /// Puts why the file is refused, if it is.

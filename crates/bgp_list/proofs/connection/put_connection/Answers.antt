@@ -6,4 +6,4 @@ pub returns : goal.returns
 unfolding connection_text
 returns g c =
     let law : Joins g.W.Sink = record { joined = g.met.W.Sink.joined } in
-    and_then law c.put_opening.ensures c.put_octets.ensures
+    and_then law c.put_outlined.ensures (and_then law c.put_octets.ensures c.put_end.ensures)

@@ -20,7 +20,10 @@ pub take_all-requires-clause-empty : goal.take_all-requires-clause-empty
 take_all-requires-clause-empty g c = subst (λ (p : ℕ). HoldsEach p [] c.new-talks.result) (sym c.new-talks.ensures.holds.right.is_port) c.new-talks.ensures.holds
 
 pub put_all-put-requires : goal.put_all-put-requires
-put_all-put-requires g c = record { apart = subst AreApart (sym c.new-refusals.ensures) none_apart }
+put_all-put-requires g c =
+    let taken = subst (λ (p : ℕ). TakesAll g.R.Source.gives g.R.Source.has_ended p c.args.source.now c.take_all.new.source c.take_all.new.talks c.take_all.new.reader.number c.take_all.new.reader.is_cut c.take_all.result)
+    c.new-talks.ensures.holds.right.is_port c.take_all.ensures.takes in
+    record { holds = (taken.packets, taken.some); apart = subst AreApart (sym c.new-refusals.ensures) none_apart }
 
 pub returns : goal.returns
 returns g c =

@@ -1,0 +1,10 @@
+use Rattle.bgp_text.proofs.Pieces.{Joins, and_then}
+use Rattle.bgp_list.specs.Connections.{outlined_text}
+use Rattle.bgp_list.proofs.connection.put_outlined.Goals as goal
+
+pub returns : goal.returns
+unfolding outlined_text
+returns g c =
+    let law : Joins g.W.Sink = record { joined = g.met.W.Sink.joined } in
+    let text = and_then law c.put_number.ensures (and_then law c.put_side.ensures (and_then law c.put.ensures (and_then law c.put_side-2.ensures c.put_first.ensures))) in
+    rw c.other_side.ensures at text
