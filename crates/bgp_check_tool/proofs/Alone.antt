@@ -62,10 +62,10 @@ module _ (options : CheckOptions) (last_packet : ℕ) (packets : List Recorded) 
   has_block : (q : Addresses) (segments : List Segment) (number place : ℕ) (block : Block) → AreOrdered q → AreTaken (selection_of q options.port) 0 packets segments
       → IsNumber segments number → place ≡ first_packet (connection_in segments number) → Contains blocks (place, block)
       → IsToldAt options packets last_packet place block → HasBlockOf blocks q segments number
-  has_block q segments number place (BothEnds session opening first second opener other) is taken is_number there among told =
+  has_block q segments number place (BothEnds session opening outline first second opener other) is taken is_number there among told =
       let (same, opens, its) = block_of_one q segments number place session opening _ is taken is_number there told in
       record { place = place; block = _; among = among; opening = opening; is_number = same; opens = opens; is = (its, refl) }
-  has_block q segments number place (OneEnd session opening first second) is taken is_number there among told =
+  has_block q segments number place (OneEnd session opening outline first second) is taken is_number there among told =
       let (same, opens, its) = block_of_one q segments number place session opening _ is taken is_number there told in
       record { place = place; block = _; among = among; opening = opening; is_number = same; opens = opens; is = (its, refl) }
   has_block q segments number place (Refused session opening refusal) is taken is_number there among told =
@@ -82,8 +82,8 @@ module _ (options : CheckOptions) (last_packet : ℕ) (packets : List Recorded) 
 
   refused_block : (q : Addresses) (fault : PacketFault) (place : ℕ) (block : Block) → AreOrdered q → IsRefusedAt options.port packets q fault place
       → IsToldAt options packets last_packet place block → block ≡ AllRefused q (refusals.Packet fault place)
-  refused_block q fault place (BothEnds session opening first second opener other) is refused told = absurd (not_one q fault place session opening _ is refused told)
-  refused_block q fault place (OneEnd session opening first second) is refused told = absurd (not_one q fault place session opening _ is refused told)
+  refused_block q fault place (BothEnds session opening outline first second opener other) is refused told = absurd (not_one q fault place session opening _ is refused told)
+  refused_block q fault place (OneEnd session opening outline first second) is refused told = absurd (not_one q fault place session opening _ is refused told)
   refused_block q fault place (Refused session opening refusal) is refused told = absurd (not_one q fault place session opening _ is refused told)
   refused_block q fault place (AllRefused addresses refusal) is refused told =
       let same = refused_alone options.port packets known addresses q told.fault fault place told.ordered is told.refused refused in

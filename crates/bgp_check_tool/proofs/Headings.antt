@@ -5,8 +5,7 @@ use Rattle.std.specs.List.Sorted.{IsStrictlySortedBy}
 use Rattle.std.specs.Map.{keys_of}
 use Rattle.std.specs.Ordering.{nat_cmp}
 use Rattle.packets.specs.Packet.{Recorded}
-use Rattle.bgp_list.specs.Lines.{IsLineAt, line_text}
-use Rattle.bgp_list.specs.declared.line.Line.{Line}
+use Rattle.bgp_list.specs.Lines.{IsLineAt, LineValue, line_text}
 use Rattle.bgp_check_text.specs.declared.quiet.Printing.{Printing}
 use Rattle.bgp_check_tool.specs.declared.options.CheckOptions.{CheckOptions}
 use Rattle.bgp_check_tool.specs.Blocks.{AllRefused, Block, BothEnds, OneEnd, Refused, block_text}
@@ -24,8 +23,8 @@ abbrev aloud : Bool → Printing
 aloud routes = record { routes = routes; quiet = false }
 
 one_text : (routes : Bool) (block : Block) → block_text (aloud routes) block ≡ line_text (heading block) ++ end_lines routes block
-one_text routes (BothEnds session opening first second opener other) = refl
-one_text routes (OneEnd session opening first second) = refl
+one_text routes (BothEnds session opening outline first second opener other) = refl
+one_text routes (OneEnd session opening outline first second) = refl
 one_text routes (Refused session opening refusal) = sym (append-nil (line_text (heading (Refused session opening refusal))))
 one_text routes (AllRefused addresses refusal) = sym (append-nil (line_text (heading (AllRefused addresses refusal))))
 
@@ -47,21 +46,21 @@ loud_text printing blocks loud =
 module _ (options : CheckOptions) (packets : List Recorded) (last_packet : ℕ) where
   one_line : (place : ℕ) (block : Block) → IsToldAt options packets last_packet place block → HasMemory last_packet block
       → IsLineAt options.port packets last_packet place (heading block)
-  one_line place (BothEnds session opening first second opener other) told has = let its = told.is_block.2 in record {
+  one_line place (BothEnds session opening outline first second opener other) told has = let its = told.is_block.2 in record {
     addresses = told.addresses;
     segments = told.segments;
     has = told.has;
     is_session = told.is_session;
     is_place = told.is_place;
-    is_line = (refl, refl, record { connection = its.connection; chosen = its.chosen; is_first = its.is_first; is_second = its.is_second });
+    is_line = (refl, refl, record { connection = its.connection; chosen = its.chosen; outlined = its.is_outline; is_first = its.is_first; is_second = its.is_second });
   }
-  one_line place (OneEnd session opening first second) told has = let its = told.is_block.2 in record {
+  one_line place (OneEnd session opening outline first second) told has = let its = told.is_block.2 in record {
     addresses = told.addresses;
     segments = told.segments;
     has = told.has;
     is_session = told.is_session;
     is_place = told.is_place;
-    is_line = (refl, refl, record { connection = its.connection; chosen = its.chosen; is_first = its.is_first; is_second = its.is_second });
+    is_line = (refl, refl, record { connection = its.connection; chosen = its.chosen; outlined = its.is_outline; is_first = its.is_first; is_second = its.is_second });
   }
   one_line place (Refused session opening refusal) told has = elim told.is_block.2 [
     | inl spoilt ↦ record {
@@ -78,7 +77,7 @@ module _ (options : CheckOptions) (packets : List Recorded) (last_packet : ℕ) 
 
   all_lines : (blocks : List (ℕ × Block)) → AllByRecursion (λ (b : ℕ × Block). IsToldAt options packets last_packet b.0 b.1) blocks
       → AllByRecursion (λ (b : ℕ × Block). HasMemory last_packet b.1) blocks
-      → AllByRecursion (λ (l : ℕ × Line). IsLineAt options.port packets last_packet l.0 l.1) (headings blocks)
+      → AllByRecursion (λ (l : ℕ × LineValue). IsLineAt options.port packets last_packet l.0 l.1) (headings blocks)
   all_lines [] told has = tt
   all_lines (block ∷ blocks) told has = (one_line block.0 block.1 told.0 has.0, all_lines blocks told.1 has.1)
 

@@ -27,9 +27,10 @@ use Rattle.bgp_import.specs.declared.refusal.Refusal.{Refusal}
 use Rattle.bgp_import.specs.declared.refusal.Refusal.TheVariants as refusals
 use Rattle.bgp_import.proofs.Alone.{connections_alone, none_at_refusal, one_place, refusals_alone, same_taken, taken_not_refused}
 use Rattle.bgp_import.proofs.ListedSoFar.{place_of}
-use Rattle.bgp_list.specs.Lines.{IsLineAt, IsLineOfAll, IsLineOfOne, TellsOctets, TellsRefusal}
-use Rattle.bgp_list.specs.declared.line.Line.{Line}
-use Rattle.bgp_list.specs.declared.line.Line.TheVariants.{AllRefused, Octets, Refused}
+use Rattle.bgp_list.specs.Lines.{AllRefused, IsLineAt, IsLineOfAll, IsLineOfOne, LineValue, Octets, Refused, TellsOctets, TellsRefusal}
+use Rattle.bgp_ended.proofs.OneOutline.{outlined_once}
+use Rattle.bgp_ended.specs.Values.{OutlineValue}
+use Rattle.bgp_import.proofs.InOrder.{in_order}
 use Rattle.bgp_check_tool.specs.Headings.{IsList}
 
 -- ---- what is told of one connection
@@ -92,13 +93,13 @@ record AreOne (session other : Session) (opening another : Opening) (segments mo
   pub segments_are : segments ≡ more
 
 module _ (port last_packet : ℕ) (packets : List Recorded) (known : AreKnown packets) where
-  abbrev At : ℕ → Line → Type 0
+  abbrev At : ℕ → LineValue → Type 0
   At place line = IsLineAt port packets last_packet place line
 
-  abbrev OfOne : ℕ → Session → Opening → Line → Type 0
+  abbrev OfOne : ℕ → Session → Opening → LineValue → Type 0
   OfOne place session opening line = IsLineOfOne port packets last_packet place session opening line
 
-  are_one : (place : ℕ) (session other : Session) (opening another : Opening) (line its : Line) (a : OfOne place session opening line) (b : OfOne place other another its)
+  are_one : (place : ℕ) (session other : Session) (opening another : Opening) (line its : LineValue) (a : OfOne place session opening line) (b : OfOne place other another its)
       → AreOne session other opening another a.segments b.segments
   are_one place session other opening another line its a b =
       let same = connections_alone port packets a.addresses b.addresses a.segments b.segments opening another a.has b.has (sym a.is_place ∙ b.is_place) in
@@ -117,42 +118,46 @@ module _ (port last_packet : ℕ) (packets : List Recorded) (known : AreKnown pa
   as_first Tell session other opening another segments more same tells =
       subst (λ (s : List Segment). Tell (reverse s) opening) (sym same.segments_are) (subst (λ (o : Opening). Tell (reverse more) o) (sym same.opening_is) tells)
 
-  same_octets : (session other : Session) (opening another : Opening) (f g s t : ℕ) → session ≡ other → opening ≡ another → f ≡ g → s ≡ t → Octets session opening f s ≡ Octets other another g t
-  same_octets session other opening another f g s t a b c d =
-      ap (λ (x : Session). Octets x opening f s) a ∙ ap (λ (x : Opening). Octets other x f s) b ∙ ap (λ (x : ℕ). Octets other another x s) c ∙ ap (λ (x : ℕ). Octets other another g x) d
+  same_octets : (session other : Session) (opening another : Opening) (o p : OutlineValue) (f g s t : ℕ) → session ≡ other → opening ≡ another → o ≡ p → f ≡ g → s ≡ t
+      → Octets session opening o f s ≡ Octets other another p g t
+  same_octets session other opening another o p f g s t a b e c d =
+      ap (λ (x : Session). Octets x opening o f s) a ∙ ap (λ (x : Opening). Octets other x o f s) b ∙ ap (λ (x : OutlineValue). Octets other another x f s) e
+      ∙ ap (λ (x : ℕ). Octets other another p x s) c ∙ ap (λ (x : ℕ). Octets other another p g x) d
 
   same_refused : (session other : Session) (opening another : Opening) (f g : Refusal) → session ≡ other → opening ≡ another → f ≡ g → Refused session opening f ≡ Refused other another g
   same_refused session other opening another f g a b c =
       ap (λ (x : Session). Refused x opening f) a ∙ ap (λ (x : Opening). Refused other x f) b ∙ ap (λ (x : Refusal). Refused other another x) c
 
   -- a connection doesn't begin where a packet is refused
-  not_one : (place : ℕ) (session : Session) (opening : Opening) (line : Line) (addresses : Addresses) (refusal : Refusal) → OfOne place session opening line
+  not_one : (place : ℕ) (session : Session) (opening : Opening) (line : LineValue) (addresses : Addresses) (refusal : Refusal) → OfOne place session opening line
       → IsLineOfAll port packets last_packet place addresses refusal → ⊥
   not_one place session opening line addresses refusal a b =
       none_at_refusal port place packets a.addresses addresses a.segments opening b.fault known b.ordered a.has b.refused (sym a.is_place)
 
-  one_line : (place : ℕ) (a b : Line) → At place a → At place b → a ≡ b
-  one_line place (Octets session opening f s) (Octets other another g t) a b =
+  one_line : (place : ℕ) (a b : LineValue) → At place a → At place b → a ≡ b
+  one_line place (Octets session opening o f s) (Octets other another p g t) a b =
       let same = are_one place session other opening another _ _ a b in
       let its = a.is_line.2 in
-      let others : TellsOctets last_packet (reverse a.segments) opening g t =
-      as_first (λ (v : List Segment) (o : Opening). TellsOctets last_packet v o g t) session other opening another a.segments b.segments same b.is_line.2 in
+      let others : TellsOctets last_packet (reverse a.segments) opening p g t =
+      as_first (λ (v : List Segment) (x : Opening). TellsOctets last_packet v x p g t) session other opening another a.segments b.segments same b.is_line.2 in
       let connections = numbered (reverse a.segments) in
-      same_octets session other opening another f g s t same.session_is same.opening_is
+      same_octets session other opening another o p f g s t same.session_is same.opening_is
+      (outlined_once (reverse a.segments) (Some opening.number) last_packet its.connection others.connection o p (in_order (selection_of a.addresses port) packets a.segments a.has.taken)
+      its.chosen others.chosen its.outlined others.outlined)
       (its.is_first ∙ one_count (Some opening.number) last_packet connections opening.opened_by its.connection others.connection its.chosen others.chosen ∙ sym others.is_first)
       (its.is_second ∙ one_count (Some opening.number) last_packet connections _ its.connection others.connection its.chosen others.chosen ∙ sym others.is_second)
-  one_line place (Octets session opening f s) (Refused other another refusal) a b =
+  one_line place (Octets session opening o f s) (Refused other another refusal) a b =
       let same = are_one place session other opening another _ _ a b in
       let its = a.is_line.2 in
       let others : TellsRefusal last_packet (reverse a.segments) opening refusal =
       as_first (λ (v : List Segment) (o : Opening). TellsRefusal last_packet v o refusal) session other opening another a.segments b.segments same b.is_line.2 in
       absurd (not_refused (Some opening.number) last_packet (numbered (reverse a.segments)) its.connection others.fault its.chosen others.refused)
-  one_line place (Octets session opening f s) (AllRefused addresses refusal) a b = absurd (not_one place session opening _ addresses refusal a b)
-  one_line place (Refused session opening refusal) (Octets other another g t) a b =
+  one_line place (Octets session opening o f s) (AllRefused addresses refusal) a b = absurd (not_one place session opening _ addresses refusal a b)
+  one_line place (Refused session opening refusal) (Octets other another p g t) a b =
       let same = are_one place session other opening another _ _ a b in
       let its = a.is_line.2 in
-      let others : TellsOctets last_packet (reverse a.segments) opening g t =
-      as_first (λ (v : List Segment) (o : Opening). TellsOctets last_packet v o g t) session other opening another a.segments b.segments same b.is_line.2 in
+      let others : TellsOctets last_packet (reverse a.segments) opening p g t =
+      as_first (λ (v : List Segment) (x : Opening). TellsOctets last_packet v x p g t) session other opening another a.segments b.segments same b.is_line.2 in
       absurd (not_refused (Some opening.number) last_packet (numbered (reverse a.segments)) others.connection its.fault others.chosen its.refused)
   one_line place (Refused session opening f) (Refused other another g) a b =
       let same = are_one place session other opening another _ _ a b in
@@ -162,7 +167,7 @@ module _ (port last_packet : ℕ) (packets : List Recorded) (known : AreKnown pa
       same_refused session other opening another f g same.session_is same.opening_is
       (its.is ∙ ap (λ (x : Fault). refusals.Connection x) (one_fault (Some opening.number) last_packet (numbered (reverse a.segments)) its.fault others.fault its.refused others.refused) ∙ sym others.is)
   one_line place (Refused session opening f) (AllRefused addresses refusal) a b = absurd (not_one place session opening _ addresses refusal a b)
-  one_line place (AllRefused addresses refusal) (Octets other another g t) a b = absurd (not_one place other another _ addresses refusal b a)
+  one_line place (AllRefused addresses refusal) (Octets other another p g t) a b = absurd (not_one place other another _ addresses refusal b a)
   one_line place (AllRefused addresses refusal) (Refused other another g) a b = absurd (not_one place other another _ addresses refusal b a)
   one_line place (AllRefused addresses f) (AllRefused others g) a b =
       let same = refusals_alone port place packets addresses others a.fault b.fault known a.ordered b.ordered a.refused b.refused in
@@ -171,7 +176,7 @@ module _ (port last_packet : ℕ) (packets : List Recorded) (known : AreKnown pa
 
   -- ---- each line's place is one of every list
 
-  has_connection : (places : List ℕ) → HasAll port packets (Contains places) → (place : ℕ) (session : Session) (opening : Opening) (line : Line) → OfOne place session opening line
+  has_connection : (places : List ℕ) → HasAll port packets (Contains places) → (place : ℕ) (session : Session) (opening : Opening) (line : LineValue) → OfOne place session opening line
       → Contains places place
   has_connection places all place session opening line a = elim (all a.addresses a.has.ordered) [
     | inl theirs ↦
@@ -191,8 +196,8 @@ module _ (port last_packet : ℕ) (packets : List Recorded) (known : AreKnown pa
     | inr theirs ↦ subst (λ (p : ℕ). Contains places p) (one_place port packets addresses theirs.fault a.fault theirs.place place theirs.refused a.refused) theirs.is_place
   ]
 
-  has_place : (places : List ℕ) → HasAll port packets (Contains places) → (place : ℕ) (line : Line) → At place line → Contains places place
-  has_place places all place (Octets session opening f s) a = has_connection places all place session opening _ a
+  has_place : (places : List ℕ) → HasAll port packets (Contains places) → (place : ℕ) (line : LineValue) → At place line → Contains places place
+  has_place places all place (Octets session opening o f s) a = has_connection places all place session opening _ a
   has_place places all place (Refused session opening f) a = has_connection places all place session opening _ a
   has_place places all place (AllRefused addresses f) a = has_refusal places all place addresses f a
 
@@ -247,8 +252,8 @@ same_numbers (x ∷ xs) (y ∷ ys) rises also within back =
 -- ---- one list
 
 module _ (port last_packet : ℕ) (packets : List Recorded) (known : AreKnown packets) where
-  places_within : (places : List ℕ) (lines : List (ℕ × Line)) → HasAll port packets (Contains places)
-      → AllByRecursion (λ (l : ℕ × Line). IsLineAt port packets last_packet l.0 l.1) lines → Within (keys_of lines) places
+  places_within : (places : List ℕ) (lines : List (ℕ × LineValue)) → HasAll port packets (Contains places)
+      → AllByRecursion (λ (l : ℕ × LineValue). IsLineAt port packets last_packet l.0 l.1) lines → Within (keys_of lines) places
   places_within places [] all lines p there = absurd there
   places_within places (l ∷ ls) all lines p (inl is) =
       subst (λ (n : ℕ). Among places n) is (among places l.0 (has_place port last_packet packets known places all l.0 l.1 lines.0))
@@ -263,8 +268,8 @@ module _ (port last_packet : ℕ) (packets : List Recorded) (known : AreKnown pa
   no_keys : (k : ℕ) (ks : List ℕ) → [] ≡ k ∷ ks → ⊥
   no_keys k ks e = cc
 
-  same_lines : (ones others : List (ℕ × Line)) → keys_of ones ≡ keys_of others → AllByRecursion (λ (l : ℕ × Line). IsLineAt port packets last_packet l.0 l.1) ones
-      → AllByRecursion (λ (l : ℕ × Line). IsLineAt port packets last_packet l.0 l.1) others → ones ≡ others
+  same_lines : (ones others : List (ℕ × LineValue)) → keys_of ones ≡ keys_of others → AllByRecursion (λ (l : ℕ × LineValue). IsLineAt port packets last_packet l.0 l.1) ones
+      → AllByRecursion (λ (l : ℕ × LineValue). IsLineAt port packets last_packet l.0 l.1) others → ones ≡ others
   same_lines [] [] same x y = refl
   same_lines [] (b ∷ others) same x y = absurd (no_keys b.0 (keys_of others) same)
   same_lines (a ∷ ones) [] same x y = absurd (no_keys a.0 (keys_of ones) (sym same))
@@ -272,10 +277,10 @@ module _ (port last_packet : ℕ) (packets : List Recorded) (known : AreKnown pa
       let place : a.0 ≡ b.0 = key_is a.0 b.0 (keys_of ones) (keys_of others) same in
       let line : a.1 ≡ b.1 =
       one_line port last_packet packets known a.0 a.1 b.1 x.0 (subst (λ (n : ℕ). IsLineAt port packets last_packet n b.1) (sym place) y.0) in
-      ap (λ (n : ℕ). (n, a.1) ∷ ones) place ∙ ap (λ (l : Line). (b.0, l) ∷ ones) line
-      ∙ ap (λ (ls : List (ℕ × Line)). b ∷ ls) (same_lines ones others (keys_are a.0 b.0 (keys_of ones) (keys_of others) same) x.1 y.1)
+      ap (λ (n : ℕ). (n, a.1) ∷ ones) place ∙ ap (λ (l : LineValue). (b.0, l) ∷ ones) line
+      ∙ ap (λ (ls : List (ℕ × LineValue)). b ∷ ls) (same_lines ones others (keys_are a.0 b.0 (keys_of ones) (keys_of others) same) x.1 y.1)
 
-  pub one_list : (ones others : List (ℕ × Line)) → IsList port packets last_packet ones → IsList port packets last_packet others → ones ≡ others
+  pub one_list : (ones others : List (ℕ × LineValue)) → IsList port packets last_packet ones → IsList port packets last_packet others → ones ≡ others
   one_list ones others a b =
       same_lines ones others
       (same_numbers (keys_of ones) (keys_of others) a.rise b.rise (places_within (keys_of others) ones b.all a.are_lines) (places_within (keys_of ones) others a.all b.are_lines))

@@ -34,7 +34,6 @@ use Rattle.bgp_import.specs.Places.{HasAll, HasEach}
 use Rattle.bgp_check_tool.specs.Places.{IsToldAt}
 use Rattle.bgp_import.specs.Talks.{HoldsEach}
 use Rattle.bgp_list.specs.Firsts.{firsts_after, with_first}
-use Rattle.bgp_list.proofs.PutSoFar.{firsts_more}
 use Rattle.std.proofs.lemmas.List.{map-append}
 use Rattle.bgp_check_tool.specs.Counted.{with_block}
 use Rattle.bgp_import.proofs.ListedSoFar.{among_keys}
@@ -54,6 +53,11 @@ all_of P (b ∷ xs) one all p = (all.0, all_of P xs one all.1 p)
 keys_with : {X : Type 0} (xs : List (ℕ × X)) (one : ℕ × X) (rest : List ℕ) → keys_of (xs ++ one ∷ []) ++ rest ≡ keys_of xs ++ one.0 ∷ rest
 keys_with [] one rest = refl
 keys_with (x ∷ xs) one rest = ap (λ (ks : List ℕ). x.0 ∷ ks) (keys_with xs one rest)
+
+-- one more is added to those that were
+firsts_more : (firsts refusals : List (Option Refusal)) (one : Option Refusal) → with_first (firsts_after firsts refusals) one ≡ firsts_after firsts (refusals ++ one ∷ [])
+firsts_more firsts [] one = refl
+firsts_more firsts (refusal ∷ later) one = firsts_more (with_first firsts refusal) later one
 
 -- the blocks of the first entries are put, and these are left
 pub record PutsFront {T Z : Type 0} {sink : sinks.Ghosts T} (options : CheckOptions) (packets : List Recorded) (last_packet : ℕ) (entries rest : List (ℕ × Listed Z))
@@ -105,7 +109,7 @@ is_told options packets last_packet place addresses talk opening session (Ok (Bo
   is_place = is.is_place;
   is_block = told _ is.holds (in_order (selection_of addresses options.port) packets is.segments is.has.taken);
 }
-is_told options packets last_packet place addresses talk opening session (Ok (One first second)) its is told = record {
+is_told options packets last_packet place addresses talk opening session (Ok (One outline first second)) its is told = record {
   addresses = addresses;
   segments = is.segments;
   has = is.has;

@@ -23,6 +23,7 @@ use Rattle.bgp_import.specs.declared.refusal.Refusal.{Refusal as WhyRefused}
 use Rattle.bgp_check.specs.Answered.{AnswerValue, HasFault, HasItsVerdict, IsAnswerTo, IsJudged, JudgedAs, NoConfigurationExplains, Unjudged}
 use Rattle.bgp_check.specs.declared.not_judged.NotJudged.{NotJudged}
 use Rattle.bgp_check.specs.declared.peer_as.PeerAs.{PeerAs}
+use Rattle.bgp_ended.specs.Values.{OutlineValue}
 use Rattle.bgp_check_text.specs.Text.{no_line, not_judged_line, unfinished_line, yes_line, yes_lines}
 use Rattle.bgp_check_text.specs.declared.end.EndName.{EndName}
 use Rattle.bgp_why.specs.declared.place.Place.{Place}
@@ -190,8 +191,8 @@ found_or_not (Some found) = inr record { found = found; is = refl }
 -- ---- the records of an end that is told
 
 module _ (options : CheckOptions) (packets : List Recorded) (last_packet place : ℕ) (session : Session) (opening : Opening) (block : Block)
-    (it : IsToldOfOne options packets last_packet place session opening block) (first_octets second_octets : ℕ) (opener other : EndTold)
-    (both : TellsBoth options last_packet (reverse it.segments) session opening first_octets second_octets opener other) where
+    (it : IsToldOfOne options packets last_packet place session opening block) (outline : OutlineValue) (first_octets second_octets : ℕ) (opener other : EndTold)
+    (both : TellsBoth options last_packet (reverse it.segments) session opening outline first_octets second_octets opener other) where
   abbrev asked : Side → Asked
   asked side = asked_of options.port options.within session (numbered (reverse it.segments)) opening side
 
@@ -439,44 +440,44 @@ module _ (options : CheckOptions) (packets : List Recorded) (last_packet place :
       }
 
 pub unfinished_are_true : NoneIsWhole → ToldUnfinishedAreTrue
-unfinished_are_true law options last_packet place packets (BothEnds session opening first_octets second_octets opener other) it =
+unfinished_are_true law options last_packet place packets (BothEnds session opening outline first_octets second_octets opener other) it =
     let both = it.is_block.2 in
-    let block = BothEnds session opening first_octets second_octets opener other in (
-      true_unfinished options packets last_packet place session opening block it first_octets second_octets opener other both law opening.opened_by opener both.is_opener,
-      true_unfinished options packets last_packet place session opening block it first_octets second_octets opener other both law (other_side opening.opened_by) other both.is_other,
+    let block = BothEnds session opening outline first_octets second_octets opener other in (
+      true_unfinished options packets last_packet place session opening block it outline first_octets second_octets opener other both law opening.opened_by opener both.is_opener,
+      true_unfinished options packets last_packet place session opening block it outline first_octets second_octets opener other both law (other_side opening.opened_by) other both.is_other,
     )
-unfinished_are_true law options last_packet place packets (OneEnd session opening first_octets second_octets) it = tt
+unfinished_are_true law options last_packet place packets (OneEnd session opening outline first_octets second_octets) it = tt
 unfinished_are_true law options last_packet place packets (Refused session opening refusal) it = tt
 unfinished_are_true law options last_packet place packets (AllRefused addresses refusal) it = tt
 
 pub yeses_are_true : ToldYesesAreTrue
-yeses_are_true options last_packet place packets (BothEnds session opening first_octets second_octets opener other) it =
+yeses_are_true options last_packet place packets (BothEnds session opening outline first_octets second_octets opener other) it =
     let both = it.is_block.2 in
-    let block = BothEnds session opening first_octets second_octets opener other in (
-      true_yes options packets last_packet place session opening block it first_octets second_octets opener other both opening.opened_by opener both.is_opener,
-      true_yes options packets last_packet place session opening block it first_octets second_octets opener other both (other_side opening.opened_by) other both.is_other,
+    let block = BothEnds session opening outline first_octets second_octets opener other in (
+      true_yes options packets last_packet place session opening block it outline first_octets second_octets opener other both opening.opened_by opener both.is_opener,
+      true_yes options packets last_packet place session opening block it outline first_octets second_octets opener other both (other_side opening.opened_by) other both.is_other,
     )
-yeses_are_true options last_packet place packets (OneEnd session opening first_octets second_octets) it = tt
+yeses_are_true options last_packet place packets (OneEnd session opening outline first_octets second_octets) it = tt
 yeses_are_true options last_packet place packets (Refused session opening refusal) it = tt
 yeses_are_true options last_packet place packets (AllRefused addresses refusal) it = tt
 
 pub noes_are_true : NoConfigurationExplains → HasItsVerdict → NoOrderHasARun → ToldNoesAreTrue
-noes_are_true explains has_verdict law options last_packet place packets (BothEnds session opening first_octets second_octets opener other) it =
+noes_are_true explains has_verdict law options last_packet place packets (BothEnds session opening outline first_octets second_octets opener other) it =
     let both = it.is_block.2 in
-    let block = BothEnds session opening first_octets second_octets opener other in (
-      true_noes options packets last_packet place session opening block it first_octets second_octets opener other both explains has_verdict law opening.opened_by opener both.is_opener,
-      true_noes options packets last_packet place session opening block it first_octets second_octets opener other both explains has_verdict law (other_side opening.opened_by) other both.is_other,
+    let block = BothEnds session opening outline first_octets second_octets opener other in (
+      true_noes options packets last_packet place session opening block it outline first_octets second_octets opener other both explains has_verdict law opening.opened_by opener both.is_opener,
+      true_noes options packets last_packet place session opening block it outline first_octets second_octets opener other both explains has_verdict law (other_side opening.opened_by) other both.is_other,
     )
-noes_are_true explains has_verdict law options last_packet place packets (OneEnd session opening first_octets second_octets) it = tt
+noes_are_true explains has_verdict law options last_packet place packets (OneEnd session opening outline first_octets second_octets) it = tt
 noes_are_true explains has_verdict law options last_packet place packets (Refused session opening refusal) it = tt
 noes_are_true explains has_verdict law options last_packet place packets (AllRefused addresses refusal) it = tt
 
 pub verdict_over_all : NoneIsWhole → ToldVerdictIsOverAll
-verdict_over_all law options last_packet place packets session opening first_octets second_octets opener other told side number peer under verdict it of_side is =
+verdict_over_all law options last_packet place packets session opening outline first_octets second_octets opener other told side number peer under verdict it of_side is =
     let both = it.is_block.2 in
     let asked = λ (s : Side). asked_of options.port options.within session (numbered (reverse it.segments)) opening s in
     let end = side_told options asked session opening both.connection opener other told side both.is_opener both.is_other of_side in
-    verdict_in options packets last_packet place session opening (BothEnds session opening first_octets second_octets opener other) it first_octets second_octets opener other both side told end
+    verdict_in options packets last_packet place session opening (BothEnds session opening outline first_octets second_octets opener other) it outline first_octets second_octets opener other both side told end
     number peer under law verdict is
 
 -- ---- of all blocks
@@ -558,11 +559,11 @@ have_as stopped options packets last_packet session opening side told has begins
 
 noes_as : (stopped : Option WhyRefused) (options : CheckOptions) (packets : List Recorded) (last_packet : ℕ) (block : Block)
     → NoesAreTrue (options_by stopped options) packets last_packet block → NoesAreTrue options packets last_packet block
-noes_as stopped options packets last_packet (BothEnds session opening first_octets second_octets opener other) noes = (
+noes_as stopped options packets last_packet (BothEnds session opening outline first_octets second_octets opener other) noes = (
   have_as stopped options packets last_packet session opening opening.opened_by opener noes.0,
   have_as stopped options packets last_packet session opening (other_side opening.opened_by) other noes.1,
 )
-noes_as stopped options packets last_packet (OneEnd session opening first_octets second_octets) noes = tt
+noes_as stopped options packets last_packet (OneEnd session opening outline first_octets second_octets) noes = tt
 noes_as stopped options packets last_packet (Refused session opening refusal) noes = tt
 noes_as stopped options packets last_packet (AllRefused addresses refusal) noes = tt
 
@@ -593,11 +594,11 @@ yes_as stopped options packets last_packet session opening side told has begins 
 
 yeses_as : (stopped : Option WhyRefused) (options : CheckOptions) (packets : List Recorded) (last_packet : ℕ) (block : Block)
     → YesesAreTrue (options_by stopped options) packets last_packet block → YesesAreTrue options packets last_packet block
-yeses_as stopped options packets last_packet (BothEnds session opening first_octets second_octets opener other) yeses = (
+yeses_as stopped options packets last_packet (BothEnds session opening outline first_octets second_octets opener other) yeses = (
   yes_as stopped options packets last_packet session opening opening.opened_by opener yeses.0,
   yes_as stopped options packets last_packet session opening (other_side opening.opened_by) other yeses.1,
 )
-yeses_as stopped options packets last_packet (OneEnd session opening first_octets second_octets) yeses = tt
+yeses_as stopped options packets last_packet (OneEnd session opening outline first_octets second_octets) yeses = tt
 yeses_as stopped options packets last_packet (Refused session opening refusal) yeses = tt
 yeses_as stopped options packets last_packet (AllRefused addresses refusal) yeses = tt
 
@@ -645,11 +646,11 @@ unfinished_as stopped options packets last_packet session opening side told has 
 
 both_unfinished_as : (stopped : Option WhyRefused) (options : CheckOptions) (packets : List Recorded) (last_packet : ℕ) (block : Block)
     → UnfinishedAreTrue (options_by stopped options) packets last_packet block → UnfinishedAreTrue options packets last_packet block
-both_unfinished_as stopped options packets last_packet (BothEnds session opening first_octets second_octets opener other) both = (
+both_unfinished_as stopped options packets last_packet (BothEnds session opening outline first_octets second_octets opener other) both = (
   unfinished_as stopped options packets last_packet session opening opening.opened_by opener both.0,
   unfinished_as stopped options packets last_packet session opening (other_side opening.opened_by) other both.1,
 )
-both_unfinished_as stopped options packets last_packet (OneEnd session opening first_octets second_octets) both = tt
+both_unfinished_as stopped options packets last_packet (OneEnd session opening outline first_octets second_octets) both = tt
 both_unfinished_as stopped options packets last_packet (Refused session opening refusal) both = tt
 both_unfinished_as stopped options packets last_packet (AllRefused addresses refusal) both = tt
 

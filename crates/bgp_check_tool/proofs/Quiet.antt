@@ -31,10 +31,10 @@ same_piece routes told its same trouble =
     λ i. (lines i, kept i)
 
 pub quiet_keeps : QuietKeepsTrouble
-quiet_keeps routes (BothEnds session opening first second opener other) =
+quiet_keeps routes (BothEnds session opening outline first second opener other) =
     let x = is_well opener.answer in
     let y = is_well other.answer in
-    let heading = connection_text session opening first second in
+    let heading = connection_text session opening outline first second in
     record {
       thinned = record {
         pieces = (heading, not (x && y)) ∷ (told_lines routes opener, not x) ∷ (told_lines routes other, not y) ∷ [];
@@ -47,9 +47,9 @@ quiet_keeps routes (BothEnds session opening first second opener other) =
       ];
       refusals = λ refusal is. (let k : ⊥ = cc in absurd k);
     }
-quiet_keeps routes (OneEnd session opening first second) = record {
+quiet_keeps routes (OneEnd session opening outline first second) = record {
   thinned = record {
-    pieces = (connection_text session opening first second ++ neither_text session opening, false) ∷ [];
+    pieces = (connection_text session opening outline first second ++ neither_text session opening, false) ∷ [];
     is_whole = sym (append-nil _);
     is_part = refl;
   };

@@ -22,4 +22,4 @@ coded_as failed code status wanted is (inr broken) = inr (broken.0, is ∙ broke
 pub text_of_ends : {X : Type 0} (printing : Printing) (session : Session) (opening : Opening) (told : EndsTold X)
     → ends_text printing session opening told ≡ block_text printing (ends_block session opening told)
 text_of_ends printing session opening (Both both) = refl
-text_of_ends printing session opening (One first second) = refl
+text_of_ends printing session opening (One outline first second) = refl

@@ -133,7 +133,7 @@ side_told options asked session opening connection opener other told side is_ope
     (subst (λ (t : EndTold). IsEndTold options (asked (other_side opening.opened_by)) session opening connection (other_side opening.opened_by) t) (sym same) is_other)
 
 pub told_no : NoConfigurationExplains → ToldNoHasNoRun
-told_no law options last_packet place packets session opening first second opener other told side number peer under count block of_side is =
+told_no law options last_packet place packets session opening outline first second opener other told side number peer under count block of_side is =
     let both = block.is_block.2 in
     let asked = λ (s : Side). asked_of options.port options.within session (numbered (reverse block.segments)) opening s in
     let end = side_told options asked session opening both.connection opener other told side both.is_opener both.is_other of_side in

@@ -22,9 +22,9 @@ use Rattle.bgp_import.specs.Talks.{IsRefusedAt}
 
 -- the block is told of the connection that was opened so
 abbrev pub IsOfConnection : Block → Session → Opening → Type 0
-IsOfConnection (BothEnds its its_opening first second opener other) session opening =
+IsOfConnection (BothEnds its its_opening outline first second opener other) session opening =
     (its ≡ session) × (its_opening ≡ opening)
-IsOfConnection (OneEnd its its_opening first second) session opening =
+IsOfConnection (OneEnd its its_opening outline first second) session opening =
     (its ≡ session) × (its_opening ≡ opening)
 IsOfConnection (Refused its its_opening refusal) session opening =
     (its ≡ session) × (its_opening ≡ opening)

@@ -18,6 +18,8 @@ use Rattle.bgp_import.specs.declared.refusal.Refusal.TheVariants as refusals
 use Rattle.bgp_import.specs.Octets.{octets_from}
 use Rattle.bgp_list.specs.Connections.{connection_text, refused_between_text}
 use Rattle.bgp_list.specs.Connections.{refused_connection_text}
+use Rattle.bgp_ended.specs.Outline.{IsOutlineOf}
+use Rattle.bgp_ended.specs.Values.{OutlineValue, outline_value}
 use Rattle.bgp_check_text.specs.Asked.{asked_of}
 use Rattle.bgp_check_text.specs.declared.options.Asked.{Asked}
 use Rattle.bgp_check_tool.specs.declared.connection.EndsTold.{EndsTold}
@@ -29,11 +31,11 @@ use Rattle.bgp_check_tool.specs.Text.{one_end_line, told_lines}
 use Rattle.bgp_check_tool.specs.Told.{EndTold, IsEndTold, told_value}
 
 pub data Block : Type 0 where
-  -- of a connection: how many octets whoever opened it sent, and how many the other; and what is
-  -- told of both ends, in that order
-  BothEnds : Session → Opening → ℕ → ℕ → EndTold → EndTold → Block
-  -- of one whose two ends are one: how many octets either sent
-  OneEnd : Session → Opening → ℕ → ℕ → Block
+  -- of a connection: what is known of it, how many octets whoever opened it sent, and how many the
+  -- other; and what is told of both ends, in that order
+  BothEnds : Session → Opening → OutlineValue → ℕ → ℕ → EndTold → EndTold → Block
+  -- of one whose two ends are one: what is known of it, and how many octets either sent
+  OneEnd : Session → Opening → OutlineValue → ℕ → ℕ → Block
   -- a connection that is refused
   Refused : Session → Opening → Refusal → Block
   -- two addresses of whose connections none can be told
@@ -61,12 +63,12 @@ neither_text session opening =
 
 -- the lines of a list, each with those of its ends; none of a connection whose ends are left out
 abbrev pub block_text : Printing → Block → List ℕ
-block_text printing (BothEnds session opening first second opener other) =
+block_text printing (BothEnds session opening outline first second opener other) =
     if are_left_out printing opener other then []
-    else connection_text session opening first second ++ both_text printing opener other
-block_text printing (OneEnd session opening first second) =
+    else connection_text session opening outline first second ++ both_text printing opener other
+block_text printing (OneEnd session opening outline first second) =
     if printing.quiet then []
-    else connection_text session opening first second ++ neither_text session opening
+    else connection_text session opening outline first second ++ neither_text session opening
 block_text printing (Refused session opening refusal) =
     refused_connection_text session opening refusal
 block_text printing (AllRefused addresses refusal) = refused_between_text addresses refusal
@@ -87,10 +89,12 @@ module _ (options : CheckOptions) (last_packet : ℕ) (segments : List Segment) 
       asked_of options.port options.within session (numbered segments) opening side
 
   -- it isn't refused, and this is told of its ends
-  pub record TellsBoth (first second : ℕ) (opener other : EndTold) : Type 0 where
+  pub record TellsBoth (outline : OutlineValue) (first second : ℕ) (opener other : EndTold)
+      : Type 0 where
     pub connection : Connection
     pub chosen : IsAnswered (Some opening.number) last_packet (numbered segments) connection
     pub are_two : ¬ AreOne session opening
+    pub is_outline : IsOutlineOf connection outline
     pub is_first : first ≡ octets_from opening.opened_by connection
     pub is_second : second ≡ octets_from (other_side opening.opened_by) connection
     pub is_opener : IsEndTold options (asked_as opening.opened_by) session opening connection
@@ -99,10 +103,11 @@ module _ (options : CheckOptions) (last_packet : ℕ) (segments : List Segment) 
         connection (other_side opening.opened_by) other
 
   -- or its ends are one
-  pub record TellsNeither (first second : ℕ) : Type 0 where
+  pub record TellsNeither (outline : OutlineValue) (first second : ℕ) : Type 0 where
     pub connection : Connection
     pub chosen : IsAnswered (Some opening.number) last_packet (numbered segments) connection
     pub are_one : AreOne session opening
+    pub is_outline : IsOutlineOf connection outline
     pub is_first : first ≡ octets_from opening.opened_by connection
     pub is_second : second ≡ octets_from (other_side opening.opened_by) connection
 
@@ -115,18 +120,17 @@ module _ (options : CheckOptions) (last_packet : ℕ) (segments : List Segment) 
   pub record IsUncheckable (refusal : Refusal) : Type 0 where
     pub connection : Connection
     pub chosen : IsAnswered (Some opening.number) last_packet (numbered segments) connection
-    pub are_two : ¬ AreOne session opening
     pub is : refusal ≡ refusals.Memory last_packet
 
 -- this block is told of it
 abbrev pub IsBlock : CheckOptions → ℕ → List Segment → Session → Opening → Block → Type 0
 IsBlock options last_packet segments session opening
-    (BothEnds its its_opening first second opener other) =
+    (BothEnds its its_opening outline first second opener other) =
     (its ≡ session) × (its_opening ≡ opening)
-    × TellsBoth options last_packet segments session opening first second opener other
-IsBlock options last_packet segments session opening (OneEnd its its_opening first second) =
+    × TellsBoth options last_packet segments session opening outline first second opener other
+IsBlock options last_packet segments session opening (OneEnd its its_opening outline first second) =
     (its ≡ session) × (its_opening ≡ opening)
-    × TellsNeither options last_packet segments session opening first second
+    × TellsNeither options last_packet segments session opening outline first second
 IsBlock options last_packet segments session opening (Refused its its_opening refusal) =
     (its ≡ session) × (its_opening ≡ opening)
     × (IsSpoilt options last_packet segments session opening refusal
@@ -137,17 +141,18 @@ IsBlock options last_packet segments session opening (AllRefused addresses refus
 
 abbrev pub ends_block : {X : Type 0} → Session → Opening → EndsTold X → Block
 ends_block session opening (ends.Both both) =
-    BothEnds session opening both.opener_octets both.other_octets
+    BothEnds session opening (outline_value both.outline) both.opener_octets both.other_octets
     (told_value both.opener) (told_value both.other)
-ends_block session opening (ends.One first second) = OneEnd session opening first second
+ends_block session opening (ends.One outline first second) =
+    OneEnd session opening (outline_value outline) first second
 
 abbrev pub ends_text : {X : Type 0} → Printing → Session → Opening → EndsTold X → List ℕ
 ends_text printing session opening told = block_text printing (ends_block session opening told)
 
 -- the refusal in a block, if there is one
 abbrev pub refusal_in : Block → Option Refusal
-refusal_in (BothEnds session opening first second opener other) = None
-refusal_in (OneEnd session opening first second) = None
+refusal_in (BothEnds session opening outline first second opener other) = None
+refusal_in (OneEnd session opening outline first second) = None
 refusal_in (Refused session opening refusal) = Some refusal
 refusal_in (AllRefused addresses refusal) = Some refusal
 

@@ -18,9 +18,9 @@ abbrev pub with_refused : Tally → Refusal → Tally
 with_refused tally refusal = with_refusal tally (cause_status (cause_of refusal))
 
 abbrev pub with_block : Tally → Block → Tally
-with_block tally (BothEnds session opening first second opener other) =
+with_block tally (BothEnds session opening outline first second opener other) =
     with_end (with_end tally opener.answer) other.answer
-with_block tally (OneEnd session opening first second) =
+with_block tally (OneEnd session opening outline first second) =
     with_unjudged (with_unjudged tally false) false
 with_block tally (Refused session opening refusal) = with_refused tally refusal
 with_block tally (AllRefused addresses refusal) = with_refused tally refusal

@@ -9,10 +9,9 @@ use Rattle.bgp_import.specs.ListText.{end_of, other_side}
 use Rattle.bgp_import.specs.Places.{HasAll}
 use Rattle.bgp_import.specs.Reading.{AreKnown}
 use Rattle.bgp_import.specs.declared.refusal.Refusal.TheVariants as refusals
-use Rattle.bgp_list.specs.Lines.{IsLineAt, line_text}
+use Rattle.bgp_list.specs.Lines.{IsLineAt, LineValue, line_text}
+use Rattle.bgp_list.specs.Lines as lines
 use Rattle.bgp_list.specs.Recording.{lines_text}
-use Rattle.bgp_list.specs.declared.line.Line.{Line}
-use Rattle.bgp_list.specs.declared.line.Line.TheVariants as lines
 use Rattle.bgp_check_text.specs.declared.quiet.Printing.{Printing}
 use Rattle.bgp_check_tool.specs.declared.options.CheckOptions.{CheckOptions}
 use Rattle.bgp_check_tool.specs.Blocks.{AllRefused, Block, BothEnds, OneEnd, Refused}
@@ -22,30 +21,30 @@ use Rattle.bgp_check_tool.specs.Text.{one_end_line, told_lines}
 
 -- ---- the first line of a block, which is that of a list, and those of its ends
 
-abbrev pub heading : Block → Line
-heading (BothEnds session opening first second opener other) =
-    lines.Octets session opening first second
-heading (OneEnd session opening first second) = lines.Octets session opening first second
+abbrev pub heading : Block → LineValue
+heading (BothEnds session opening outline first second opener other) =
+    lines.Octets session opening outline first second
+heading (OneEnd session opening outline first second) = lines.Octets session opening outline first second
 heading (Refused session opening refusal) = lines.Refused session opening refusal
 heading (AllRefused addresses refusal) = lines.AllRefused addresses refusal
 
 abbrev pub end_lines : Bool → Block → List ℕ
-end_lines routes (BothEnds session opening first second opener other) =
+end_lines routes (BothEnds session opening outline first second opener other) =
     told_lines routes opener ++ told_lines routes other
-end_lines routes (OneEnd session opening first second) =
+end_lines routes (OneEnd session opening outline first second) =
     one_end_line (end_of opening.opened_by session opening)
     ++ one_end_line (end_of (other_side opening.opened_by) session opening)
 end_lines routes (Refused session opening refusal) = []
 end_lines routes (AllRefused addresses refusal) = []
 
 -- the first lines, each at its place
-abbrev pub headings : List (ℕ × Block) → List (ℕ × Line)
+abbrev pub headings : List (ℕ × Block) → List (ℕ × LineValue)
 headings blocks = map (λ (b : ℕ × Block). (b.0, heading b.1)) blocks
 
 -- memory wasn't refused for the ends of a connection, which has no line in a list
 abbrev pub HasMemory : ℕ → Block → Type 0
-HasMemory last_packet (BothEnds session opening first second opener other) = Unit {0}
-HasMemory last_packet (OneEnd session opening first second) = Unit {0}
+HasMemory last_packet (BothEnds session opening outline first second opener other) = Unit {0}
+HasMemory last_packet (OneEnd session opening outline first second) = Unit {0}
 HasMemory last_packet (Refused session opening refusal) = refusal ≢ refusals.Memory last_packet
 HasMemory last_packet (AllRefused addresses refusal) = Unit {0}
 
@@ -54,17 +53,17 @@ HasMemory last_packet (AllRefused addresses refusal) = Unit {0}
 -- These lines are a list of the recording: one at each packet at which there is something to list,
 -- in the order of the packets. `bgp list` prints such a list, if memory isn't refused.
 pub record IsList (port : ℕ) (packets : List Recorded) (last_packet : ℕ)
-    (lines : List (ℕ × Line)) : Type 0 where
+    (lines : List (ℕ × LineValue)) : Type 0 where
   pub are_lines : AllByRecursion
-      (λ (l : ℕ × Line). IsLineAt port packets last_packet l.0 l.1) lines
+      (λ (l : ℕ × LineValue). IsLineAt port packets last_packet l.0 l.1) lines
   pub rise : IsStrictlySortedBy nat_cmp (keys_of lines)
   pub all : HasAll port packets (Contains (keys_of lines))
 
 -- And they are the only one: each list of the recording has these lines, and their text.
 pub record IsTheList (port : ℕ) (packets : List Recorded) (last_packet : ℕ)
-    (lines : List (ℕ × Line)) : Type 0 where
+    (lines : List (ℕ × LineValue)) : Type 0 where
   pub is_list : IsList port packets last_packet lines
-  pub is_only : (others : List (ℕ × Line)) → IsList port packets last_packet others
+  pub is_only : (others : List (ℕ × LineValue)) → IsList port packets last_packet others
       → (others ≡ lines) × (lines_text others ≡ lines_text lines)
 
 -- ---- the laws
@@ -77,7 +76,7 @@ pub record PrintsListLines (printing : Printing) (port : ℕ) (packets : List Re
       ≡ flat_map (λ (b : ℕ × Block). line_text (heading b.1) ++ end_lines printing.routes b.1)
       blocks
   pub are_lines : AllByRecursion
-      (λ (l : ℕ × Line). IsLineAt port packets last_packet l.0 l.1) (headings blocks)
+      (λ (l : ℕ × LineValue). IsLineAt port packets last_packet l.0 l.1) (headings blocks)
   pub are_places : keys_of (headings blocks) ≡ keys_of blocks
 
 abbrev pub ListIsWithoutEnds : Type 0

@@ -25,6 +25,7 @@ use Rattle.bgp_check.specs.Over.{HasVerdictOver}
 use Rattle.bgp_check.specs.Stretch.{IsStretch}
 use Rattle.bgp_check.specs.WidestMade.{IsFaultless}
 use Rattle.bgp_check.specs.declared.peer_as.PeerAs.{PeerAs}
+use Rattle.bgp_ended.specs.Values.{OutlineValue}
 use Rattle.bgp_check_text.specs.declared.options.Asked.{Asked}
 use Rattle.bgp_check_tool.specs.declared.another.Order.TheVariants as orders
 use Rattle.bgp_check_tool.specs.declared.options.CheckOptions.{CheckOptions}
@@ -133,10 +134,10 @@ pub record NoneHasARun (port : ℕ) (packets : List Recorded) (within last_packe
 abbrev pub ToldNoHasNoRun : Type 0
 ToldNoHasNoRun =
     (options : CheckOptions) (last_packet place : ℕ) (packets : List Recorded) (session : Session)
-    (opening : Opening) (first second : ℕ) (opener other told : EndTold) (side : Side)
+    (opening : Opening) (outline : OutlineValue) (first second : ℕ) (opener other told : EndTold) (side : Side)
     (number : Option ℕ) (peer : PeerAs) (under : Config) (count : ℕ)
     → IsToldAt options packets last_packet place
-    (BothEnds session opening first second opener other)
+    (BothEnds session opening outline first second opener other)
     → IsToldOfSide opening opener other side told
     → told.answer ≡ JudgedAs number peer under (No count)
     → NoneHasARun options.port packets options.within last_packet session opening side count

@@ -35,12 +35,12 @@ module _ (options : CheckOptions) (packets : List Recorded) where
     pub is : refusal ≡ refusals.Packet fault place
 
   abbrev pub IsToldAt : ℕ → ℕ → Block → Type 0
-  IsToldAt last_packet place (BothEnds session opening first second opener other) =
+  IsToldAt last_packet place (BothEnds session opening outline first second opener other) =
       IsToldOfOne last_packet place session opening
-      (BothEnds session opening first second opener other)
-  IsToldAt last_packet place (OneEnd session opening first second) =
+      (BothEnds session opening outline first second opener other)
+  IsToldAt last_packet place (OneEnd session opening outline first second) =
       IsToldOfOne last_packet place session opening
-      (OneEnd session opening first second)
+      (OneEnd session opening outline first second)
   IsToldAt last_packet place (Refused session opening refusal) =
       IsToldOfOne last_packet place session opening (Refused session opening refusal)
   IsToldAt last_packet place (AllRefused addresses refusal) =

@@ -30,6 +30,8 @@ use Rattle.bgp_check.specs.Over.{HasVerdictOver, ListsEndsOver}
 use Rattle.bgp_check.specs.WidestMade.{IsFaultless}
 use Rattle.bgp_check.specs.declared.own_fault.OwnFault.{OwnFault}
 use Rattle.bgp_check.specs.declared.peer_as.PeerAs.{PeerAs}
+use Rattle.bgp_ended.specs.Offered.{with_both_offers}
+use Rattle.bgp_ended.specs.Values.{OutlineValue}
 use Rattle.bgp_check_text.specs.Tally.{last_text, status_of}
 use Rattle.bgp_check_text.specs.AsNumber.{HasAsNumber}
 use Rattle.bgp_check_text.specs.Text.{no_line, unfinished_line, yes_lines}
@@ -48,7 +50,7 @@ use Rattle.bgp_check_tool.specs.Orders.{NoOrderExplains, NoOrderIsWhole}
 use Rattle.bgp_orders.specs.WholeWays.{AreOfAWayOver}
 use Rattle.bgp_check_tool.specs.declared.orders.NoOrder.{NoOrder}
 use Rattle.bgp_check_tool.specs.Place.{last_place, place_at, sent_place}
-use Rattle.bgp_check_tool.specs.Made.{AreOffered, with_both_offers}
+use Rattle.bgp_check_tool.specs.Made.{AreOffered}
 use Rattle.bgp_check_tool.specs.Places.{IsToldAt}
 use Rattle.bgp_check_tool.specs.Seen.{seen_from, session_from}
 use Rattle.bgp_check_tool.specs.Text.{after_no, after_unfinished, after_yes, deed_by}
@@ -225,10 +227,10 @@ HasTrueNoes options packets last_packet session opening side told =
 
 -- so it is of both ends of a connection
 abbrev pub NoesAreTrue : CheckOptions → List Recorded → ℕ → Block → Type 0
-NoesAreTrue options packets last_packet (BothEnds session opening first second opener other) =
+NoesAreTrue options packets last_packet (BothEnds session opening outline first second opener other) =
     HasTrueNoes options packets last_packet session opening opening.opened_by opener
     × HasTrueNoes options packets last_packet session opening (other_side opening.opened_by) other
-NoesAreTrue options packets last_packet (OneEnd session opening first second) = Unit {0}
+NoesAreTrue options packets last_packet (OneEnd session opening outline first second) = Unit {0}
 NoesAreTrue options packets last_packet (Refused session opening refusal) = Unit {0}
 NoesAreTrue options packets last_packet (AllRefused addresses refusal) = Unit {0}
 
@@ -264,10 +266,10 @@ HasTrueYes options packets last_packet session opening side told =
 
 -- so it is of both ends of a connection
 abbrev pub YesesAreTrue : CheckOptions → List Recorded → ℕ → Block → Type 0
-YesesAreTrue options packets last_packet (BothEnds session opening first second opener other) =
+YesesAreTrue options packets last_packet (BothEnds session opening outline first second opener other) =
     HasTrueYes options packets last_packet session opening opening.opened_by opener
     × HasTrueYes options packets last_packet session opening (other_side opening.opened_by) other
-YesesAreTrue options packets last_packet (OneEnd session opening first second) = Unit {0}
+YesesAreTrue options packets last_packet (OneEnd session opening outline first second) = Unit {0}
 YesesAreTrue options packets last_packet (Refused session opening refusal) = Unit {0}
 YesesAreTrue options packets last_packet (AllRefused addresses refusal) = Unit {0}
 
@@ -298,11 +300,11 @@ HasTrueUnfinished options packets last_packet session opening side told =
 -- so it is of both ends of a connection
 abbrev pub UnfinishedAreTrue : CheckOptions → List Recorded → ℕ → Block → Type 0
 UnfinishedAreTrue options packets last_packet
-    (BothEnds session opening first second opener other) =
+    (BothEnds session opening outline first second opener other) =
     HasTrueUnfinished options packets last_packet session opening opening.opened_by opener
     × HasTrueUnfinished options packets last_packet session opening
     (other_side opening.opened_by) other
-UnfinishedAreTrue options packets last_packet (OneEnd session opening first second) = Unit {0}
+UnfinishedAreTrue options packets last_packet (OneEnd session opening outline first second) = Unit {0}
 UnfinishedAreTrue options packets last_packet (Refused session opening refusal) = Unit {0}
 UnfinishedAreTrue options packets last_packet (AllRefused addresses refusal) = Unit {0}
 
@@ -362,10 +364,10 @@ ToldUnfinishedAreTrue =
 abbrev pub ToldVerdictIsOverAll : Type 0
 ToldVerdictIsOverAll =
     (options : CheckOptions) (last_packet place : ℕ) (packets : List Recorded) (session : Session)
-    (opening : Opening) (first second : ℕ) (opener other told : EndTold) (side : Side)
+    (opening : Opening) (outline : OutlineValue) (first second : ℕ) (opener other told : EndTold) (side : Side)
     (number : Option ℕ) (peer : PeerAs) (under : Config) (verdict : VerdictValue)
     → IsToldAt options packets last_packet place
-    (BothEnds session opening first second opener other)
+    (BothEnds session opening outline first second opener other)
     → IsToldOfSide opening opener other side told
     → told.answer ≡ JudgedAs number peer under verdict
     → HasVerdictIn told.order options packets last_packet session opening side verdict

@@ -25,9 +25,9 @@ pub record IsThinned (whole part : List ℕ) : Type 0 where
 
 -- an end that is told in a block
 abbrev pub IsEndIn : EndTold → Block → Type 0
-IsEndIn told (BothEnds session opening first second opener other) =
+IsEndIn told (BothEnds session opening outline first second opener other) =
     (told ≡ opener) ⊎ (told ≡ other)
-IsEndIn told (OneEnd session opening first second) = ⊥
+IsEndIn told (OneEnd session opening outline first second) = ⊥
 IsEndIn told (Refused session opening refusal) = ⊥
 IsEndIn told (AllRefused addresses refusal) = ⊥
 

@@ -6,11 +6,13 @@ ghost use Rattle.bgp_check_tool.specs.Blocks.{BothEnds, OneEnd};
 ghost use Rattle.bgp_check_tool.specs.Blocks.{are_left_out, block_of, block_text, both_text};
 ghost use Rattle.bgp_check_tool.specs.Blocks.{ends_text, kept_lines, neither_text};
 ghost use Rattle.bgp_check_tool.specs.Told.{told_value};
+ghost use Rattle.bgp_ended.specs.Values.{outline_value};
 
 use crate::connection::{BothTold, EndsTold};
 use crate::ending::Told;
 use crate::lines::{put_one_end, put_told};
 use bgp_check_text::{Printing, is_left_out};
+use bgp_ended::Outline;
 use bgp_import::{Refusal, end_of, other_side};
 use bgp_list::{put_connection, put_refused_connection};
 use bgp_prefix::Session;
@@ -70,35 +72,36 @@ fn put_both_block<W: Sink, A: Allocator>(
     printing: Printing,
 )
     ensures { Writes lines.old lines.new (block_text printing (BothEnds session.now opening
-        both.now.opener_octets both.now.other_octets (told_value both.now.opener)
-        (told_value both.now.other))) }
+        (outline_value both.now.outline) both.now.opener_octets both.now.other_octets
+        (told_value both.now.opener) (told_value both.now.other))) }
 {
     if are_left_out(both, printing) {
         lines.put(b"");
     } else {
         let (first, second) = (both.opener_octets, both.other_octets);
-        put_connection(lines, session, opening, first, second);
+        put_connection(lines, session, opening, &both.outline, first, second);
         put_both(lines, both, printing);
     }
 }
 
-/// The lines of a connection whose two ends are one, by how many octets either sent, unless they
-/// are left out.
+/// The lines of a connection whose two ends are one, by what is known of it and how many octets
+/// either sent, unless they are left out.
 fn put_one_block<W: Sink>(
     lines: &mut Lines<'_, W>,
     session: &Session,
     opening: Opening,
+    outline: &Outline<'_>,
     first: usize,
     second: usize,
     printing: Printing,
 )
-    ensures { Writes lines.old lines.new
-        (block_text printing (OneEnd session.now opening first second)) }
+    ensures { Writes lines.old lines.new (block_text printing
+        (OneEnd session.now opening (outline_value outline.now) first second)) }
 {
     if printing.quiet {
         lines.put(b"");
     } else {
-        put_connection(lines, session, opening, first, second);
+        put_connection(lines, session, opening, outline, first, second);
         put_neither(lines, session, opening);
     }
 }
@@ -115,8 +118,8 @@ fn put_ends<W: Sink, A: Allocator>(
 {
     match told {
         EndsTold::Both(both) => put_both_block(lines, session, opening, both, printing),
-        EndsTold::One(first, second) => {
-            put_one_block(lines, session, opening, *first, *second, printing);
+        EndsTold::One(outline, first, second) => {
+            put_one_block(lines, session, opening, outline, *first, *second, printing);
         }
     }
 }

@@ -9,6 +9,7 @@ ghost use Rattle.streams.specs.Passed.{Segment};
 ghost use Rattle.bgp_recording.specs.Gathered.{IsClocked, IsCovered};
 ghost use Rattle.bgp_import.specs.ListText.{other_side};
 ghost use Rattle.bgp_check_text.specs.Asked.{asked_of};
+ghost use Rattle.bgp_ended.specs.Values.{outline_value};
 ghost use Rattle.bgp_import.specs.declared.refusal.Refusal.TheVariants.{Memory as OfMemory};
 ghost use Rattle.bgp_check_tool.specs.Blocks.{AreOne, IsBlock, block_of};
 ghost use Rattle.bgp_import.specs.Octets.{octets_from};
@@ -20,15 +21,18 @@ use crate::making::made_of;
 use crate::options::CheckOptions;
 use crate::seen::{seen_from, session_from};
 use bgp_check_text::{Asked, asked_of};
+use bgp_ended::{Outline, outline_of};
 use bgp_import::{Refusal, end_of, octets_from, other_side};
 use bgp_judge::Tracker;
 use bgp_prefix::Session;
 use std::alloc::{AllocError, Allocator};
 use streams::{Connection, Connections, Opening, Side};
 
-/// Both ends of a connection, first that of whoever opened it; and how many octets each sent.
+/// Both ends of a connection, first that of whoever opened it; what is known of it, and how many
+/// octets each sent.
 #[derive(Drop)]
 pub(crate) struct BothTold<'a, A: Allocator> {
+    pub(crate) outline: Outline<'a>,
     pub(crate) opener: Told<'a, A>,
     pub(crate) other: Told<'a, A>,
     pub(crate) opener_octets: usize,
@@ -38,8 +42,9 @@ pub(crate) struct BothTold<'a, A: Allocator> {
 /// What is told of a connection that isn't refused.
 #[derive(Drop)]
 pub(crate) enum EndsTold<'a, A: Allocator> {
-    /// How many octets either end sent, whoever opened it first, where both ends are one.
-    One(usize, usize),
+    /// What is known of it, and how many octets either end sent, whoever opened it first, where both
+    /// ends are one.
+    One(Outline<'a>, usize, usize),
     /// Both ends.
     Both(BothTold<'a, A>),
 }
@@ -79,13 +84,14 @@ fn check_side<'a, A: Allocator + Copy, T: Tracker<A>>(
     Ok(told)
 }
 
-/// What is told of both ends of a connection, first of that which opened it; and how `bgp judge` is
-/// asked for them.
+/// What is told of both ends of a connection of which this is known, first of that which opened it;
+/// and how `bgp judge` is asked for them.
 fn check_both<'a, A: Allocator + Copy, T: Tracker<A>>(
     alloc: A,
     between: &Between,
     opening: Opening,
     connection: &Connection<'a>,
+    outline: Outline<'a>,
     asked: (Asked, Asked),
 ) -> Result<BothTold<'a, A>, AllocError>
     requires received { IsCovered connection.now.received }
@@ -96,6 +102,8 @@ fn check_both<'a, A: Allocator + Copy, T: Tracker<A>>(
     ensures other { IfOk result (λ both. IsClocked connection.now → IsEndTold
         between.now.options asked.1 between.now.session opening connection.now
         (other_side opening.opened_by) (told_value both.other)) }
+    ensures outline { IfOk result (λ both. outline_value both.outline
+        ≡ outline_value outline.entry) }
     ensures opener_octets { IfOk result (λ both.
         both.opener_octets ≡ octets_from opening.opened_by connection.now) }
     ensures other_octets { IfOk result (λ both.
@@ -106,6 +114,7 @@ fn check_both<'a, A: Allocator + Copy, T: Tracker<A>>(
     let opener = check_side::<A, T>(alloc, between, opening, connection, from, asked.0)?;
     let other = check_side::<A, T>(alloc, between, opening, connection, to, asked.1)?;
     Ok(BothTold {
+        outline,
         opener,
         other,
         opener_octets: octets_from(from, connection),
@@ -178,15 +187,21 @@ pub(crate) fn check_connection<'a, A: Allocator + Copy, T: Tracker<A>>(
         Ok(connection) => connection,
         Err(fault) => return Err(Refusal::Connection(fault)),
     };
+    let Ok(outline) = outline_of(alloc, &connection) else {
+        return Err(Refusal::Memory {
+            packet: between.last_packet,
+        });
+    };
     if are_one(&between.session, opening) {
         let from = opening.opened_by;
         return Ok(EndsTold::One(
+            outline,
             octets_from(from, &connection),
             octets_from(other_side(from), &connection),
         ));
     }
     let asked = asked_both(between, connections, opening);
-    match check_both::<A, T>(alloc, between, opening, &connection, asked) {
+    match check_both::<A, T>(alloc, between, opening, &connection, outline, asked) {
         Ok(both) => Ok(EndsTold::Both(both)),
         Err(AllocError) => Err(Refusal::Memory {
             packet: between.last_packet,

@@ -1,59 +1,18 @@
 //! The records that are made of a connection for one of its ends.
 
-ghost use Rattle.std.specs.Prelude.{◌≡◌, IfOk, IfSome, map, option_map};
-ghost use Rattle.bgp_open.specs.OpenFault.{IsWellFormed};
+ghost use Rattle.std.specs.Prelude.{◌≡◌, IfOk, map};
 ghost use Rattle.mrt.specs.Reader.{shown_of};
 ghost use Rattle.bgp_recording.specs.Captured.{records_of};
 ghost use Rattle.bgp_recording.specs.Gathered.{IsClocked, IsCovered};
-ghost use Rattle.bgp_check_tool.specs.Made.{AreOffered, IsMade, framing_by, framing_with};
-ghost use Rattle.bgp_check_tool.specs.Made.{with_both_offers};
+ghost use Rattle.bgp_check_tool.specs.Made.{AreOffered, IsMade};
 
-use bgp_check::{heard_open, offer_of, own_open};
+use bgp_check::{heard_open, own_open};
 use bgp_check_text::are_framed_alike;
-use bgp_open::{Open, read_open};
-use bgp_recording::{Framing, Framings, Recording, make_records};
-use bgp_wire::Limit;
+use bgp_ended::{framing_by, with_both_offers};
+use bgp_recording::{Framings, Recording, make_records};
 use mrt::Record;
 use std::alloc::{AllocError, Allocator};
 use streams::Connection;
-
-/// By which rules what comes to a system is framed that sent this OPEN.
-fn framing_with(message: &Open<'_>) -> Framing
-    ensures { result ≡ framing_with message.now.capabilities }
-{
-    let offer = offer_of(message);
-    Framing {
-        limit: Limit::with_extended(offer.extended),
-        skips_refresh: offer.refresh,
-    }
-}
-
-/// By which rules what comes to a system is framed that sent this OPEN, or none.
-fn framing_by(octets: Option<&[u8]>) -> Framing
-    requires { IfSome octets (λ o. IsWellFormed o.now) }
-    ensures { result ≡ framing_by (option_map (λ o. o.now) octets.entry) }
-{
-    let Some(octets) = octets else {
-        return Framing {
-            limit: Limit::Plain,
-            skips_refresh: false,
-        };
-    };
-    match read_open(octets) {
-        Ok(message) => framing_with(&message),
-        Err(_) => unreachable!(),
-    }
-}
-
-/// Both directions as if both systems offered extended messages and route refresh.
-fn with_both_offers() -> Framings
-    ensures { result ≡ with_both_offers }
-{
-    Framings::alike(Framing {
-        limit: Limit::Extended,
-        skips_refresh: true,
-    })
-}
 
 /// Both directions by what the receiver of either offers in the first well-formed OPEN that it
 /// sent.

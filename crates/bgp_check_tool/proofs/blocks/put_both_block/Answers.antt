@@ -2,6 +2,7 @@ use Rattle.std.proofs.Common.{◌∙◌, ◌++◌, Bool, [], if◌then◌else◌
 use Rattle.bgp_text.specs.Lines.{Writes}
 use Rattle.bgp_text.proofs.Pieces.{Joins, and_then}
 use Rattle.bgp_list.specs.Connections.{connection_text}
+use Rattle.bgp_ended.specs.Values.{outline_value}
 use Rattle.bgp_check_tool.specs.Blocks.{both_text}
 use Rattle.bgp_check_tool.specs.Told.{told_value}
 use Rattle.bgp_check_tool.proofs.blocks.put_both_block.Goals as goal
@@ -10,7 +11,7 @@ pub returns-then-are_left_out : goal.returns-then-are_left_out
 returns-then-are_left_out g c =
     let left = sym c.are_left_out.ensures ∙ c.if-are_left_out.true in
     subst (λ (b : Bool). Writes c.args.lines.now c.put.new.self
-    (if b then [] else connection_text c.args.session.now c.args.opening c.args.both.now.opener_octets c.args.both.now.other_octets
+    (if b then [] else connection_text c.args.session.now c.args.opening (outline_value c.args.both.now.outline) c.args.both.now.opener_octets c.args.both.now.other_octets
     ++ both_text c.args.printing (told_value c.args.both.now.opener) (told_value c.args.both.now.other))) (sym left) c.put.ensures
 
 pub returns-else-are_left_out : goal.returns-else-are_left_out
@@ -18,5 +19,5 @@ returns-else-are_left_out g c =
     let law : Joins g.W.Sink = record { joined = g.met.W.Sink.joined } in
     let kept = sym c.are_left_out.ensures ∙ c.if-are_left_out.false in
     subst (λ (b : Bool). Writes c.args.lines.now c.put_both.new.lines
-    (if b then [] else connection_text c.args.session.now c.args.opening c.args.both.now.opener_octets c.args.both.now.other_octets
+    (if b then [] else connection_text c.args.session.now c.args.opening (outline_value c.args.both.now.outline) c.args.both.now.opener_octets c.args.both.now.other_octets
     ++ both_text c.args.printing (told_value c.args.both.now.opener) (told_value c.args.both.now.other))) (sym kept) (and_then law c.put_connection.ensures c.put_both.ensures)

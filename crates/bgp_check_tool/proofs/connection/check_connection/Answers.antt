@@ -3,6 +3,8 @@ use Rattle.streams.specs.declared.passed.Side.{Side}
 use Rattle.bgp_import.specs.Octets.{octets_from}
 use Rattle.bgp_import.specs.ListText.{other_side}
 use Rattle.bgp_check_text.specs.declared.options.Asked.{Asked}
+use Rattle.bgp_ended.specs.Outline.{IsOutlineOf}
+use Rattle.bgp_ended.specs.Values.{OutlineValue}
 use Rattle.bgp_check_tool.specs.Told.{IsEndTold, told_value}
 use Rattle.streams.specs.Connections.{numbered}
 use Rattle.bgp_import.proofs.Telling.{are_covered, is_clocked}
@@ -34,6 +36,7 @@ returns-in-Ok-check_both g c = λ segments holds order.
         connection = c.in-Ok.connection;
         chosen = chosen;
         are_two = λ one. false_true (sym c.if-are_one.false ∙ c.are_one.ensures.1 one);
+        is_outline = subst (λ (o : OutlineValue). IsOutlineOf c.in-Ok.connection o) (sym is.outline) c.in-Ok-outline_of.ensures;
         is_first = is.opener_octets;
         is_second = is.other_octets;
         is_opener = subst (λ (a : Asked). IsEndTold options a session c.args.opening c.in-Ok.connection from (told_value both.opener))
@@ -45,7 +48,7 @@ returns-in-Ok-check_both g c = λ segments holds order.
 
 pub returns-in-Err-check_both : goal.returns-in-Err-check_both
 returns-in-Err-check_both g c = λ segments holds order.
-    (refl, refl, inr (record { connection = c.in-Ok.connection; chosen = c.in-Ok.ensures segments holds; are_two = λ one. false_true (sym c.if-are_one.false ∙ c.are_one.ensures.1 one); is = refl }))
+    (refl, refl, inr (record { connection = c.in-Ok.connection; chosen = c.in-Ok.ensures segments holds; is = refl }))
 
 pub returns-then-are_one : goal.returns-then-are_one
 returns-then-are_one g c = λ segments holds order. (
@@ -55,6 +58,7 @@ returns-then-are_one g c = λ segments holds order. (
     connection = c.in-Ok.connection;
     chosen = c.in-Ok.ensures segments holds;
     are_one = c.are_one.ensures.0 c.if-are_one.true;
+    is_outline = c.in-Ok-outline_of.ensures;
     is_first = c.octets_from.ensures;
     is_second = c.octets_from-then-are_one.ensures ∙ ap (λ (s : Side). octets_from s c.in-Ok.connection) c.other_side.ensures;
   },
