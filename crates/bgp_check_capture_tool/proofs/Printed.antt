@@ -44,6 +44,7 @@ use Rattle.bgp_check_capture_tool.specs.Printed.{BeginsWithNo, HasVerdictBy, IsT
 use Rattle.bgp_check_capture_tool.specs.StretchEnd.{StretchEnd}
 use Rattle.bgp_check_capture_tool.specs.Stretches.{first_of}
 use Rattle.bgp_check_capture_tool.specs.Text.{answer_text, end_text, notes_text}
+use Rattle.bgp_check_capture_tool.specs.ToldEnd.{is_over, told_end_line}
 use Rattle.bgp_check_capture_tool.specs.declared.telling.Telling.{Telling}
 use Rattle.bgp_check_capture_tool.proofs.Verdicts.{IsFound, found, left_so}
 
@@ -92,7 +93,7 @@ no_by_text : (routes : Bool) (end : StretchEnd) (answer : AnswerValue) (rest : L
 no_by_text routes end (Unjudged why) rest is =
     let differs : 116 ≡ 32 = sym (unjudged_third end.name why) ∙ ap third is ∙ no_third rest in absurd (omega (arith, differs))
 no_by_text routes end (JudgedAs number peer under (Yes ends)) rest is =
-    let differs : 121 ≡ 110 = sym (yes_first routes end.name peer end.highest ends (notes_text end)) ∙ ap first is ∙ no_first rest in absurd (omega (arith, differs))
+    let differs : 121 ≡ 110 = sym (yes_first routes end.name peer end.highest ends (told_end_line (is_over ends) end.ended ++ notes_text end)) ∙ ap first is ∙ no_first rest in absurd (omega (arith, differs))
 no_by_text routes end (JudgedAs number peer under (No count)) rest is = record { number = number; peer = peer; under = under; count = count; is = refl }
 no_by_text routes end (JudgedAs number peer under Unfinished) rest is =
     let differs : 117 ≡ 110 = sym (unfinished_first end.place end.name (end.reason ++ notes_text end)) ∙ ap first is ∙ no_first rest in absurd (omega (arith, differs))

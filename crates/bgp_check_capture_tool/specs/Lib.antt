@@ -1,6 +1,7 @@
 pub mod Stretches
 pub mod Judging
 pub mod Naming
+pub mod ToldEnd
 pub mod Places
 pub mod StretchEnd
 pub mod Ends

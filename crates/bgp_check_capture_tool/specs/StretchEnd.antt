@@ -1,5 +1,6 @@
 -- What is told of a stretch of a session in a capture.
 use Rattle.std.specs.Prelude.{◌≡◌, false, ℕ, List, [], Option, None, Some, length, map}
+use Rattle.std.specs.Prelude.{option_map}
 use Rattle.bgp_prefix.specs.Shown.{ShownRecord}
 use Rattle.bgp_prefix.specs.declared.session.Session.{Session}
 use Rattle.bgp_why.specs.declared.endpoint.Endpoint.{Endpoint}
@@ -18,6 +19,7 @@ use Rattle.bgp_check_text.specs.declared.options.JudgeOptions.{JudgeOptions}
 use Rattle.bgp_check_capture_tool.specs.Judging.{AreOptionsOf}
 use Rattle.bgp_check_capture_tool.specs.Naming.{IsNameOf, endpoint_of}
 use Rattle.bgp_check_capture_tool.specs.Places.{numbers_of, place_in}
+use Rattle.bgp_check_capture_tool.specs.ToldEnd.{IsEndTold, ToldEndValue, told_end_value}
 use Rattle.bgp_check_capture_tool.specs.declared.part.Part.{Part}
 use Rattle.bgp_check_capture_tool.specs.declared.stretch_end.StretchEnd.{StretchEnd as Held}
 use Rattle.bgp_check_capture_tool.specs.declared.stretch_end.View.{View as HeldView}
@@ -32,6 +34,8 @@ pub record StretchEnd : Type 0 where
   pub told : ToldValue
   -- the number of the highest state that it tells
   pub highest : ℕ
+  -- how it ended, if it did
+  pub ended : Option ToldEndValue
   -- the record at which a no stands, or after which it is unfinished
   pub place : Place
   -- what the record shows was done at which a no stands
@@ -57,6 +61,7 @@ stretch_value end = record {
   name = end.name;
   told = told_value end.told;
   highest = end.highest;
+  ended = option_map told_end_value end.ended;
   place = end.place;
   deed = deed_in end.reason;
   reason = lines_in end.reason;
@@ -86,14 +91,15 @@ IsReasonFor view before told deed lines =
     (endpoint_of view.session.peer) (numbered_places (numbers_of before told.places)) told.records
     told.answer deed lines
 
--- This is told of the stretch before which so many records stand, and which this one leaves: what
--- is answered of it, and why, and how `bgp judge` gives it.
+-- This is told of the stretch before which so many records stand, and which this one leaves: how it
+-- ended, what is answered of it, and why, and how `bgp judge` gives it.
 pub record IsStretchEnd (view : View) (before : ℕ) (stretch : List ShownRecord)
     (leaving : Option ShownRecord) (end : StretchEnd) : Type 0 where
   pub is_part : end.part ≡ record { before = before; count = length stretch }
   pub is_name : IsNameOf view.session.local before stretch leaving end.name
   pub is_told : IsStretchTold view.session stretch (length stretch) leaving end.told
   pub is_highest : end.highest ≡ highest_state stretch
+  pub tells_end : IsEndTold (first_second view.named) view.session before stretch end.ended
   pub is_place : end.place ≡ place_in before end.told
   pub explains : IsReasonFor view before end.told end.deed end.reason
   pub judges : AreOptionsOf view.telling view.named end.told before leaving end.judge

@@ -16,6 +16,7 @@ use Rattle.bgp_check_capture_tool.specs.Ends.{End, Silent, Staying, Stretch}
 use Rattle.bgp_check_capture_tool.specs.StretchEnd.{StretchEnd}
 use Rattle.bgp_check_capture_tool.specs.Judging.{judge_text}
 use Rattle.bgp_check_capture_tool.specs.Naming.{endpoint_of}
+use Rattle.bgp_check_capture_tool.specs.ToldEnd.{is_over, told_end_line}
 
 -- the line of the first records of a session, so many, that aren't judged
 unfoldable pub unjudged_line : Address → ℕ → List ℕ → List ℕ
@@ -31,7 +32,8 @@ notes_text end = passed_notes end.told.received end.told.sent ++ judge_text end.
 
 abbrev pub verdict_text : Bool → StretchEnd → PeerAs → VerdictValue → List ℕ
 verdict_text routes end peer (Yes ends) =
-    yes_lines routes end.name peer end.highest ends ++ notes_text end
+    yes_lines routes end.name peer end.highest ends
+    ++ (told_end_line (is_over ends) end.ended ++ notes_text end)
 verdict_text routes end peer (No count) =
     no_line end.place end.name end.deed ++ (end.reason ++ notes_text end)
 verdict_text routes end peer Unfinished =

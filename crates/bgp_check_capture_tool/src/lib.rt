@@ -25,6 +25,7 @@ mod part;
 mod places;
 mod stretch_end;
 mod telling;
+mod told_end;
 
 pub use checking::CheckedCapture;
 pub use headline::{a_printed_verdict_is_over_all_configurations, check_capture};

@@ -15,6 +15,7 @@ ghost use Rattle.bgp_check_capture_tool.specs.Text.{verdict_text};
 use crate::judging::put_judge;
 use crate::naming::endpoint_of;
 use crate::stretch_end::StretchEnd;
+use crate::told_end::{is_over, put_told_end};
 use bgp_check::{Answer, Judged, NotJudged};
 use bgp_check_text::{
     Reason, put_no, put_not_judged, put_part_end, put_passed_over, put_reason, put_unfinished,
@@ -90,14 +91,10 @@ fn put_verdict<W: Sink, A: Allocator>(
     let (name, highest) = (&end.name, end.highest);
     match &judged.verdict {
         Verdict::Yes(endings) => {
-            put_yes(
-                lines,
-                name,
-                judged.peer_as,
-                endings.as_slice(),
-                highest,
-                routes,
-            );
+            let endings = endings.as_slice();
+            let is_over = is_over(endings);
+            put_yes(lines, name, judged.peer_as, endings, highest, routes);
+            put_told_end(lines, end.ended, is_over);
             put_notes(lines, end);
         }
         Verdict::No(_) => {

@@ -16,6 +16,7 @@ use crate::naming::{endpoint_of, name_of};
 use crate::part::Part;
 use crate::places::{numbers_of, place_in};
 use crate::telling::Telling;
+use crate::told_end::{ToldEnd, told_end};
 use bgp_check::{Answer, StretchTold, check_stretch};
 use bgp_check_text::{EndName, JudgeOptions, Reason, highest_state, is_no_yes, reason_of};
 use bgp_explain::Places;
@@ -49,6 +50,8 @@ pub(crate) struct StretchEnd<'a, A: Allocator> {
     pub(crate) told: StretchTold<'a, A>,
     /// The number of the highest state that it tells (RFC 6396, 4.4.1).
     pub(crate) highest: u16,
+    /// How it ended, if it did.
+    pub(crate) ended: Option<ToldEnd<'a>>,
     /// The record at which a no stands, or after which it is unfinished.
     pub(crate) place: Place,
     /// Why it is a no or unfinished, where it is.
@@ -125,6 +128,7 @@ pub(crate) fn end_of<'a, A: Allocator + Copy, T: Tracker<A>>(
     let reason = reason_for::<A, T>(alloc, view, before, &told)?;
     let judge = options_of(view, before, leaving, &told);
     let place = place_in(before, &told);
+    let ended = told_end(&view.session, first_second(view.named), before, stretch);
     Ok(StretchEnd {
         part: Part {
             before,
@@ -133,6 +137,7 @@ pub(crate) fn end_of<'a, A: Allocator + Copy, T: Tracker<A>>(
         name: name_of(view.session.local, before, stretch, leaving),
         told,
         highest: highest_state(stretch),
+        ended,
         place,
         reason,
         judge,

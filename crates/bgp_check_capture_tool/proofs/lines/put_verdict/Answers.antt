@@ -4,8 +4,10 @@ use Rattle.bgp_check_capture_tool.proofs.lines.put_verdict.Goals as goal
 pub returns-in-Yes : goal.returns-in-Yes
 returns-in-Yes g c =
     let law : Joins g.W.Sink = record { joined = g.met.W.Sink.joined } in
-    let yes = rw c.as_slice.ensures.value at c.put_yes.ensures in
-    rw c.in-Yes.is (and_then law yes c.put_notes.ensures)
+    let yes = rw c.as_slice-endings.ensures.value at c.put_yes.ensures in
+    let over = rw c.as_slice-endings.ensures.value at c.is_over-is_over.ensures in
+    let told = rw over at c.put_told_end.ensures in
+    rw c.in-Yes.is (and_then law yes (and_then law told c.put_notes.ensures))
 
 pub returns-in-No : goal.returns-in-No
 returns-in-No g c =
