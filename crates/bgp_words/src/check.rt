@@ -24,8 +24,9 @@ capture of MRT records. What is configured is read off the OPEN that an end sent
 doesn't say is left free.
 
 For each connection at --port in a recording:
-  connection 1: 192.0.2.2:40000 to 192.0.2.1:179 at 2017-07-14 02:40:00.133606 UTC, packet 1, ..
-                        as bgp list prints it; its two ends follow, first that which opened it
+  connection 1: 192.0.2.2:40000 (AS 65002) to 192.0.2.1:179 (AS 65001) at 2017-07-14 02:40:00 ..
+                        as bgp list prints it, with a line on how it ended; its two ends follow,
+                        first that which opened it
   yes: 192.0.2.2:40000 (AS 65002): Established, routes from its peer: 2
                         all is allowed; the AS number of its OPEN, and the state in which it may be.
                         The line says if its peer has to have another AS number than its OPEN says
@@ -55,8 +56,8 @@ with options for which judge says the same of FILE, if there are such. They are 
 configuration that the OPEN allows, and not the router's own.
 
 With -q only the ends that are a no or unfinished and what is refused are printed, each under the
-line of its connection or session. A file about which nothing of that is left prints nothing; the
-exit status says the same as without.
+line of its connection or session. If nothing of that is left, nothing is printed, unless the file
+has no session at all. The exit status says the same as without.
 
 ROUTE-REFRESH messages that their receiver's OPEN offers to read are passed over, and a note counts
 them. If a connection, a session or the file can't be read, a line says so, as those of bgp list do.

@@ -21,10 +21,13 @@ list prints the connections at --port in a recording, or the sessions in a captu
 doesn't know the addresses. FILE is a recording, a packet capture as tcpdump -w writes it (pcap or
 pcapng), or a capture of MRT records. A line of a recording is one of these, in the order of first
 packets:
-  connection 1: 192.0.2.2:40000 to 192.0.2.1:179 at 2017-07-14 02:40:00.133606 UTC, packet 1, ..
+  connection 1: 192.0.2.2:40000 (AS 65002) to 192.0.2.1:179 (AS 65001) at 2017-07-14 02:40:00 ..
                         its number between its two addresses, which --connection of judge, decode
                         and import takes; who opened it, from which port; to whom, at which port;
-                        time and number of its first packet; how many octets each of both sent
+                        the AS numbers of their OPENs; time and number of its first packet; how many
+                        octets each of both sent
+    ended at packet 17, 02:41:02.133606, by 192.0.2.1:179: NOTIFICATION 6/2 (Cease, ..
+                        how it ended: by which NOTIFICATION, or by a FIN or RST, or not at all
   connection 2: 192.0.2.2:40001 to 192.0.2.1:179 at 2017-07-14 02:41:00.133606 UTC, packet 10
   refused at packet 17: 14 Missing, octets are missing before it
                         its octets aren't whole: the packet's number from 1, the reason's number and
