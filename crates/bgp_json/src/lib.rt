@@ -12,6 +12,7 @@ mod members;
 mod message;
 mod open;
 mod others;
+mod output_form;
 mod place;
 mod record;
 mod teller;
@@ -22,6 +23,7 @@ pub use message::put_json_frame;
 pub use others::{
     put_json_capture_refusal, put_json_change, put_json_recording_refusal, put_json_rest,
 };
+pub use output_form::OutputForm;
 pub use place::{Place, RecordPlace};
 pub use record::put_json_message;
 pub use teller::JsonTeller;
