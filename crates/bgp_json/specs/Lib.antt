@@ -6,3 +6,4 @@ pub mod Parts
 pub mod MessageJson
 pub mod RecordJson
 pub mod Telling
+pub mod Output

@@ -13,6 +13,7 @@ mod message;
 mod open;
 mod others;
 mod output_form;
+mod output_teller;
 mod place;
 mod record;
 mod teller;
@@ -24,6 +25,7 @@ pub use others::{
     put_json_capture_refusal, put_json_change, put_json_recording_refusal, put_json_rest,
 };
 pub use output_form::OutputForm;
+pub use output_teller::{OutputTeller, put_capture_refusal};
 pub use place::{Place, RecordPlace};
 pub use record::put_json_message;
 pub use teller::JsonTeller;
