@@ -5,3 +5,6 @@ pub mod UpdateFields
 pub mod ShownAt
 pub mod ReadsBack
 pub mod Shallow
+pub mod TextLines
+pub mod OneOutput
+pub mod Outputs

@@ -1,6 +1,7 @@
 -- The lines that `bgp decode` prints, in each of its forms: as text, which is bgp_lines', or as
 -- JSON.
 use Rattle.std.specs.Prelude.{◌≡◌, ◌++◌, ◌+◌, ℕ, List, [], ◌∷◌, Result, MatchResult}
+use Rattle.json.specs.Json.{Json}
 use Rattle.bgp_prefix.specs.declared.session.Session.{Session}
 use Rattle.bgp_wire.specs.declared.header.HeaderFaults.{HeaderFaults}
 use Rattle.mrt.specs.declared.fault.CaptureFault.{CaptureFault}
@@ -27,6 +28,10 @@ use Rattle.bgp_json.specs.declared.place.Place.TheVariants.{InStream}
 abbrev pub IsJson : OutputForm → Type 0
 IsJson (forms.Text form) = ⊥
 IsJson (forms.Json as2) = Unit {0}
+
+-- the line of some value
+abbrev pub IsJsonLine : List ℕ → Type 0
+IsJsonLine line = (value : Json) × (line ≡ json_line value)
 
 -- in JSON a line is one value
 abbrev pub HasForm : OutputForm → List ℕ → Type 0

@@ -20,9 +20,11 @@ mod teller;
 mod update;
 
 pub use faults::put_json_fault;
+pub use members::{begin, put_text};
 pub use message::put_json_frame;
 pub use others::{
     put_json_capture_refusal, put_json_change, put_json_recording_refusal, put_json_rest,
+    put_states,
 };
 pub use output_form::OutputForm;
 pub use output_teller::{OutputTeller, put_capture_refusal};

@@ -10,7 +10,7 @@ use json::Writer;
 use std::alloc::{AllocError, Allocator};
 
 /// Begins an object that says first what it tells of.
-pub(crate) fn begin<A: Allocator>(writer: &mut Writer<A>, kind: &str) -> Result<(), AllocError>
+pub fn begin<A: Allocator>(writer: &mut Writer<A>, kind: &str) -> Result<(), AllocError>
     ensures { Adds result writer.old writer.new (tokens.begin_object
         ∷ members_tokens ((codes "type", string kind.now) ∷ [])) }
 {
@@ -20,7 +20,7 @@ pub(crate) fn begin<A: Allocator>(writer: &mut Writer<A>, kind: &str) -> Result<
 }
 
 /// Puts a member that is a text.
-pub(crate) fn put_text<A: Allocator>(
+pub fn put_text<A: Allocator>(
     writer: &mut Writer<A>,
     key: &str,
     text: &str,

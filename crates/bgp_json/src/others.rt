@@ -76,7 +76,7 @@ fn put_state<A: Allocator + Copy>(
 }
 
 /// Puts both states of a change.
-fn put_states<A: Allocator + Copy>(
+pub fn put_states<A: Allocator + Copy>(
     writer: &mut Writer<A>,
     alloc: A,
     old: u16,
