@@ -3,6 +3,7 @@
 ghost use Rattle.std.specs.Prelude.{◌≡◌, ◌<◌, ◌≤◌, length};
 
 use arrayvec::ArrayVec;
+use bgp_json::OutputForm;
 use bgp_lines::LineForm;
 use bgp_prefix::Session;
 use bgp_tool::{SessionOptions, decode_capture};
@@ -57,7 +58,13 @@ impl<P: Print, A: Allocator + Copy> Watch<'_, P, A> {
         let mut reader = Reader::new(self.alloc);
         let mut source = FromRead::new(self.record.as_slice());
         let mut sink = FromWrite::new(io::writer(self.printer));
-        let _ = decode_capture(&mut reader, &self.options, &mut source, &mut sink);
+        let _ = decode_capture(
+            self.alloc,
+            &mut reader,
+            &self.options,
+            &mut source,
+            &mut sink,
+        );
     }
 }
 
@@ -90,7 +97,7 @@ impl<'a, C: Sink, P: Print, A: Allocator + Copy> Watched<'a, C, P, A> {
     {
         let options = SessionOptions {
             session: *session,
-            form: LineForm::Plain,
+            form: OutputForm::Text(LineForm::Plain),
         };
         Watched {
             capture,

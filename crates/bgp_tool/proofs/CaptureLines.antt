@@ -16,8 +16,9 @@ use Rattle.mrt.proofs.OtherPairs.{others_chain}
 use Rattle.mrt.proofs.Advancing.{joined_more}
 use Rattle.mrt.proofs.AllowedRecord.{each_allowed}
 use Rattle.mrt.proofs.Chains.{joined_chain, records_chain, last_chain, pieces_chain, one_record, last_piece, no_pieces_there}
-use Rattle.bgp_lines.specs.Form.{Before, IsPlacedLine, before_behind, nothing_before}
+use Rattle.bgp_lines.specs.Form.{Before, before_behind, nothing_before}
 use Rattle.bgp_lines.specs.Telling.{placed_as}
+use Rattle.bgp_json.specs.Output.{IsRecordOutput}
 use Rattle.bgp_tool.specs.CaptureDecoding.{AreCaptureLines, EndsAt}
 use Rattle.bgp_tool.specs.declared.session_options.SessionOptions.{SessionOptions}
 use Rattle.bgp_tool.proofs.PlacedLines.{came_before, came_one_more, one_more}
@@ -51,7 +52,7 @@ module _ {R : Type 0} (gives : R → R → List ℕ → Type 0) (has_ended : R �
     pub are_lines : AreCaptureLines options (records_of pieces) text
 
   pub nothing_read : (state : ReaderState) → state ≡ fresh_reader → gives source source []
-      → (so : SoFar source state []) × (came_in so.pieces ≡ nothing_before)
+      → (so : SoFar source state []) × (came_in so.pieces ≡ nothing_before) × (0 ≡ length (records_of so.pieces))
   nothing_read state fresh nothing = let so : SoFar source state [] = record {
     pieces = [];
     each = tt;
@@ -63,7 +64,7 @@ module _ {R : Type 0} (gives : R → R → List ℕ → Type 0) (has_ended : R �
     calm = ap (λ (s : ReaderState). s.fault) fresh;
     going = ap (λ (s : ReaderState). s.is_ended) fresh;
     are_lines = refl;
-  } in (so, refl)
+  } in (so, refl, refl)
 
   pub answer_of : (now next : R) (state after : ReaderState) (answer : Result (Option Record) CaptureFault) → state.fault ≡ None → state.is_ended ≡ false
       → IsNext gives has_ended options.session now next state after answer → IsAnswer gives has_ended options.session now next state after answer
@@ -95,6 +96,13 @@ module _ {R : Type 0} (gives : R → R → List ℕ → Type 0) (has_ended : R �
   less_left now next state after shown answer below =
       less_by (count now) (count next) (length (joined (answer.skipped ++ Shown answer.octets ∷ [])))
       (counted now next (joined (answer.skipped ++ Shown answer.octets ∷ [])) answer.exactly) (takes_some now next state after shown answer) below
+
+  -- and more was given
+  pub more_given : (now next : R) (state after : ReaderState) (shown : ShownRecord) → Answers gives has_ended options.session now next state after shown
+      → count now < count next
+  more_given now next state after shown answer =
+      let some = takes_some now next state after shown answer in
+      let all = counted now next (joined (answer.skipped ++ Shown answer.octets ∷ [])) answer.exactly in omega (arith, some, all)
 
   behind : (now next : R) (state : ReaderState) (text : List ℕ) (so_far : SoFar now state text) (more : List Piece) → ArePieces options.session state.last more
       → ArePieces options.session None (so_far.pieces ++ more)
@@ -128,12 +136,13 @@ module _ {R : Type 0} (gives : R → R → List ℕ → Type 0) (has_ended : R �
       let many = ap length (joined_chain so_far.pieces more) ∙ length-append (joined so_far.pieces) (joined more) in
       let before = so_far.passed in omega arith
 
-  -- a record more, its line, and what came before the next one
-  pub answered : (now next : R) (state after : ReaderState) (text line : List ℕ) (shown : ShownRecord) → (so_far : SoFar now state text)
-      → Answers gives has_ended options.session now next state after shown
-      → IsPlacedLine options.form options.session (came_in so_far.pieces) (placed_as None shown) line
+  -- a record more, its line, what came before the next one, and how many there are
+  pub answered : (now next : R) (state after : ReaderState) (number : ℕ) (text line : List ℕ) (shown : ShownRecord) → (so_far : SoFar now state text)
+      → Answers gives has_ended options.session now next state after shown → number ≡ 1 + length (records_of so_far.pieces)
+      → IsRecordOutput options.form options.session (came_in so_far.pieces) number (placed_as None shown) line
       → (so : SoFar next after (text ++ line)) × (came_in so.pieces ≡ before_behind shown (came_in so_far.pieces))
-  answered now next state after text line shown so_far answer is =
+      × (number ≡ length (records_of so.pieces))
+  answered now next state after number text line shown so_far answer counts is =
       let more = answer.skipped ++ Shown answer.octets ∷ [] in
       let records = records_chain so_far.pieces more ∙ ap (λ (r : List ShownRecord). records_of so_far.pieces ++ r) (one_record answer.skipped answer.octets answer.only) in
       let so : SoFar next after (text ++ line) = record {
@@ -147,13 +156,14 @@ module _ {R : Type 0} (gives : R → R → List ℕ → Type 0) (has_ended : R �
         calm = ap (λ (s : ReaderState). s.fault) answer.stands ∙ so_far.calm;
         going = ap (λ (s : ReaderState). s.is_ended) answer.stands ∙ so_far.going;
         are_lines = subst (λ (r : List ShownRecord). AreCaptureLines options r (text ++ line)) (sym records)
-            (one_more options.form options.session nothing_before (records_of so_far.pieces) text (shown_of answer.octets) line so_far.are_lines
-            (subst (λ (r : ShownRecord). IsPlacedLine options.form options.session (came_in so_far.pieces) (placed_as None r) line) (sym answer.shown) is));
+            (one_more options.form options.session nothing_before 1 number (records_of so_far.pieces) text (shown_of answer.octets) line counts so_far.are_lines
+            (subst (λ (r : ShownRecord). IsRecordOutput options.form options.session (came_in so_far.pieces) number (placed_as None r) line) (sym answer.shown) is));
       } in (
         so,
         ap (λ (r : List ShownRecord). came_before r nothing_before) records
             ∙ came_one_more (records_of so_far.pieces) (shown_of answer.octets) nothing_before
             ∙ ap (λ (r : ShownRecord). before_behind r (came_in so_far.pieces)) answer.shown,
+        omega (arith, counts, ap length records, length-append (records_of so_far.pieces) (shown_of answer.octets ∷ [])),
       )
 
   -- skipped records add no line

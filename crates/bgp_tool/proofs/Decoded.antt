@@ -4,8 +4,8 @@ use Rattle.bgp_wire.specs.declared.header.Limit.{Limit}
 use Rattle.bgp_wire.specs.Header.{header_of}
 use Rattle.bgp_wire.specs.Framing.{IsShort, IsFaulty, joined}
 use Rattle.bgp_wire.proofs.EachFraming.{each_faults, each_framing}
-use Rattle.bgp_lines.specs.Form.{fault_line_in, rest_line_in}
-use Rattle.bgp_lines.specs.declared.form.LineForm.{LineForm}
+use Rattle.bgp_json.specs.Output.{fault_output, rest_output}
+use Rattle.bgp_json.specs.declared.output_form.OutputForm.{OutputForm}
 use Rattle.bgp_tool.specs.declared.decoding.End.{End}
 use Rattle.bgp_tool.specs.declared.decoding.End.TheVariants as ends
 use Rattle.bgp_tool.specs.declared.stream_options.StreamOptions.{StreamOptions}
@@ -14,13 +14,13 @@ use Rattle.bgp_tool.specs.Ending.{AreLines, HasText}
 use Rattle.bgp_tool.proofs.LinesOfFrames.{each_told, no_lines, more_lines}
 
 -- where the last frame ends
-behind_frames : {limit : Limit} {form : LineForm} {before : List (List ℕ)} (frames : List (List ℕ)) (stream rest lines : List ℕ)
+behind_frames : {limit : Limit} {form : OutputForm} {before : List (List ℕ)} (frames : List (List ℕ)) (stream rest lines : List ℕ)
     → (so_far : AreLines limit form before frames stream rest lines) → length stream - length rest ≡ length (joined frames)
 behind_frames frames stream rest lines so_far =
     omega (arith, ap length so_far.split, length-append (joined frames) rest)
 
 -- what a last line is of is short or faulty
-rest_of_last : (limit : Limit) (form : LineForm) (offset : ℕ) (rest last : List ℕ) (status : ℕ) → IsLastLine limit form offset rest last status
+rest_of_last : (limit : Limit) (form : OutputForm) (offset : ℕ) (rest last : List ℕ) (status : ℕ) → IsLastLine limit form offset rest last status
     → IsShort limit rest ⊎ IsFaulty limit rest
 rest_of_last limit form offset rest last status is_last = elim is_last [
   | inl none ↦ let empty : length rest ≡ 0 = ap length none.0 in inl (inl (omega arith))
@@ -47,14 +47,14 @@ decoded options frames stream rest lines last status so_far is_last = record {
 }
 
 -- each rest has a last line
-last_line : (limit : Limit) (form : LineForm) (offset : ℕ) (rest : List ℕ) → (IsShort limit rest ⊎ IsFaulty limit rest)
+last_line : (limit : Limit) (form : OutputForm) (offset : ℕ) (rest : List ℕ) → (IsShort limit rest ⊎ IsFaulty limit rest)
     → (last : List ℕ) × (status : ℕ) × IsLastLine limit form offset rest last status
 last_line limit form offset [] (inl short) = ([], 0, inl (refl, refl, refl))
 last_line limit form offset (o ∷ os) (inl short) =
-    (rest_line_in form (o ∷ os), 2, inr (inl (λ e. absurd (cc), short, refl, refl)))
+    (rest_output form offset (o ∷ os), 2, inr (inl (λ e. absurd (cc), short, refl, refl)))
 last_line limit form offset rest (inr faulty) =
     let faults = each_faults limit (header_of rest) in
-    (fault_line_in form offset faults.0 (header_of rest), 3, inr (inr (faulty, refl, (faults.0, faults.1, refl))))
+    (fault_output form offset faults.0 (header_of rest), 3, inr (inr (faulty, refl, (faults.0, faults.1, refl))))
 
 -- the lines of frames at the front are a beginning
 pub beginning : (options : StreamOptions) (frames : List (List ℕ)) (stream rest lines : List ℕ)

@@ -1,5 +1,5 @@
 -- The lines of frames that come one after another.
-use Rattle.std.proofs.Common.{◌≡◌, ◌∙◌, ◌++◌, ◌∷◌, [], All, ℕ, List, refl, sym, ap, subst, append_assoc, append-nil}
+use Rattle.std.proofs.Common.{◌≡◌, ◌∙◌, ◌++◌, ◌∷◌, [], All, ℕ, List, length, refl, sym, ap, subst, append_assoc, append-nil}
 use Rattle.std.proofs.lemmas.List.{flat_map_more}
 use Rattle.std.proofs.lemmas.List.Elements.{All-nil, All-push, All-append, All-head, All-tail}
 use Rattle.std.proofs.lemmas.Grind.{flat_map-append}
@@ -8,15 +8,16 @@ use Rattle.bgp_wire.specs.Framing.{IsFrame, joined}
 use Rattle.bgp_text.specs.Message.{Message, Say}
 use Rattle.bgp_text.specs.Text.{line_of}
 use Rattle.bgp_values.specs.declared.opens.Direction.TheVariants.{Received}
-use Rattle.bgp_lines.specs.Form.{IsFrameLine}
-use Rattle.bgp_lines.specs.declared.form.LineForm.{LineForm}
 use Rattle.bgp_lines.specs.declared.form.LineForm.TheVariants.{Plain}
-use Rattle.bgp_lines.proofs.OneLine.{each_line, one_line}
+use Rattle.bgp_json.specs.Output.{IsFrameOutput}
+use Rattle.bgp_json.specs.declared.output_form.OutputForm.{OutputForm}
+use Rattle.bgp_json.specs.declared.output_form.OutputForm.TheVariants.{Text}
+use Rattle.bgp_json.proofs.OneOutput.{each_output, one_output}
 use Rattle.bgp_tool.specs.Decoding.{AreFrameLines, lines_of, stream_before}
 use Rattle.bgp_tool.specs.Ending.{AreLines}
 
 -- the lines of frames, and of more frames behind them
-pub told_more : (form : LineForm) (before frames others : List (List ℕ)) (text more : List ℕ) → AreFrameLines form before frames text
+pub told_more : (form : OutputForm) (before frames others : List (List ℕ)) (text more : List ℕ) → AreFrameLines form before frames text
     → AreFrameLines form (before ++ frames) others more → AreFrameLines form before (frames ++ others) (text ++ more)
 told_more form before [] others text more told then' =
     subst (λ (t : List ℕ). AreFrameLines form before others (t ++ more)) (sym told)
@@ -31,31 +32,31 @@ told_more form before (f ∷ fs) others text more told then' =
     )
 
 -- the lines of frames, and of one more
-told_one_more : (form : LineForm) (before frames : List (List ℕ)) (text frame line : List ℕ) → AreFrameLines form before frames text
-    → IsFrameLine form (stream_before (before ++ frames)) Received frame line → AreFrameLines form before (frames ++ frame ∷ []) (text ++ line)
+told_one_more : (form : OutputForm) (before frames : List (List ℕ)) (text frame line : List ℕ) → AreFrameLines form before frames text
+    → IsFrameOutput form (stream_before (before ++ frames)) Received (length (joined (before ++ frames))) frame line → AreFrameLines form before (frames ++ frame ∷ []) (text ++ line)
 told_one_more form before frames text frame line told is =
     told_more form before frames (frame ∷ []) text line told (line, [], is, refl, sym (append-nil line))
 
 -- each list of frames has its lines
-pub each_told : (form : LineForm) (limit : Limit) (before frames : List (List ℕ)) → All (IsFrame limit) frames
+pub each_told : (form : OutputForm) (limit : Limit) (before frames : List (List ℕ)) → All (IsFrame limit) frames
     → (text : List ℕ) × AreFrameLines form before frames text
 each_told form limit before [] each = ([], refl)
 each_told form limit before (frame ∷ frames) each =
-    let line = each_line form (stream_before before) Received limit frame (All-head (IsFrame limit) frame frames each) in
+    let line = each_output form (stream_before before) Received (length (joined before)) limit frame (All-head (IsFrame limit) frame frames each) in
     let others = each_told form limit (before ++ frame ∷ []) frames (All-tail (IsFrame limit) frame frames each) in
     (line.0 ++ others.0, (line.0, others.0, line.1, others.1, refl))
 
 -- and no others
-pub one_told : (form : LineForm) (before frames : List (List ℕ)) (text other : List ℕ) → AreFrameLines form before frames text
+pub one_told : (form : OutputForm) (before frames : List (List ℕ)) (text other : List ℕ) → AreFrameLines form before frames text
     → AreFrameLines form before frames other → text ≡ other
 one_told form before [] text other h k = h ∙ sym k
 one_told form before (frame ∷ frames) text other h k =
-    let line = one_line form (stream_before before) Received frame h.0 k.0 h.2 k.2 in
+    let line = one_output form (stream_before before) Received (length (joined before)) frame h.0 k.0 h.2 k.2 in
     let others = one_told form (before ++ frame ∷ []) frames h.1 k.1 h.3 k.3 in
     h.4 ∙ ap (λ (t : List ℕ). t ++ h.1) line ∙ ap (λ (t : List ℕ). k.0 ++ t) others ∙ sym k.4
 
 -- in the plain form the lines are those of what the frames say
-pub plain_lines : (before frames : List (List ℕ)) (text : List ℕ) → AreFrameLines Plain before frames text
+pub plain_lines : (before frames : List (List ℕ)) (text : List ℕ) → AreFrameLines (Text Plain) before frames text
     → (messages : List Message) × Say frames messages × (text ≡ lines_of messages)
 plain_lines before [] text told = ([], tt, told)
 plain_lines before (frame ∷ frames) text told =
@@ -66,13 +67,13 @@ plain_lines before (frame ∷ frames) text told =
     )
 
 -- before the first frame
-pub no_lines : (limit : Limit) (form : LineForm) (before : List (List ℕ)) (octets : List ℕ) → AreLines limit form before [] octets octets []
+pub no_lines : (limit : Limit) (form : OutputForm) (before : List (List ℕ)) (octets : List ℕ) → AreLines limit form before [] octets octets []
 no_lines limit form before octets = record { split = refl; each = All-nil (IsFrame limit); told = refl }
 
 -- one frame more
-pub one_line_more : {limit : Limit} {form : LineForm} (before frames : List (List ℕ)) (octets rest behind lines frame line : List ℕ)
+pub one_line_more : {limit : Limit} {form : OutputForm} (before frames : List (List ℕ)) (octets rest behind lines frame line : List ℕ)
     → AreLines limit form before frames octets rest lines → IsFrame limit frame → rest ≡ frame ++ behind
-    → IsFrameLine form (stream_before (before ++ frames)) Received frame line
+    → IsFrameOutput form (stream_before (before ++ frames)) Received (length (joined (before ++ frames))) frame line
     → AreLines limit form before (frames ++ frame ∷ []) octets behind (lines ++ line)
 one_line_more {limit} {form} before frames octets rest behind lines frame line so_far whole is told = record {
   split =
@@ -84,7 +85,7 @@ one_line_more {limit} {form} before frames octets rest behind lines frame line s
 }
 
 -- more frames
-pub more_lines : {limit : Limit} {form : LineForm} (before frames others : List (List ℕ)) (octets rest behind lines more : List ℕ)
+pub more_lines : {limit : Limit} {form : OutputForm} (before frames others : List (List ℕ)) (octets rest behind lines more : List ℕ)
     → AreLines limit form before frames octets rest lines → AreLines limit form (before ++ frames) others rest behind more
     → AreLines limit form before (frames ++ others) octets behind (lines ++ more)
 more_lines {limit} {form} before frames others octets rest behind lines more front back = record {
@@ -97,7 +98,7 @@ more_lines {limit} {form} before frames others octets rest behind lines more fro
 }
 
 -- more octets come behind the rest
-pub lines_fed : {limit : Limit} {form : LineForm} (before frames : List (List ℕ)) (octets rest lines piece : List ℕ)
+pub lines_fed : {limit : Limit} {form : OutputForm} (before frames : List (List ℕ)) (octets rest lines piece : List ℕ)
     → AreLines limit form before frames octets rest lines → AreLines limit form before frames (octets ++ piece) (rest ++ piece) lines
 lines_fed before frames octets rest lines piece so_far = record {
   split = ap (λ (xs : List ℕ). xs ++ piece) so_far.split ∙ append_assoc (joined frames) rest piece;

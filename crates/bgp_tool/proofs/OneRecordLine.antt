@@ -1,5 +1,5 @@
 -- Records have one text in each form.
-use Rattle.std.proofs.Common.{◌≡◌, ◌∙◌, ◌++◌, ℕ, Bool, List, [], ◌∷◌, codes, refl, sym, ap, subst, inl, inr, Option}
+use Rattle.std.proofs.Common.{◌≡◌, ◌∙◌, ◌+◌, ◌++◌, ℕ, Bool, List, [], ◌∷◌, codes, refl, sym, ap, subst, inl, inr, Option}
 use Rattle.bgp_prefix.specs.Shown.{ShownRecord, Received as In, Sent as Out, Changed}
 use Rattle.bgp_prefix.specs.declared.session.Session.{Session}
 use Rattle.bgp_wire.specs.declared.header.HeaderFaults.{HeaderFaults}
@@ -15,12 +15,16 @@ use Rattle.bgp_text.proofs.OneMessage.{one_message}
 use Rattle.bgp_values.specs.declared.opens.Direction.{Direction}
 use Rattle.bgp_values.specs.declared.opens.Direction.TheVariants.{Received, Sent}
 use Rattle.bgp_values.specs.declared.opens.Reading.{Reading}
-use Rattle.bgp_lines.specs.Form.{ArePlacedLines, Before, IsNamedMessage, IsNamedMessageOf, IsNamedRecord, IsPlacedLine, PlacedRecord, before_behind, placed_text}
+use Rattle.bgp_lines.specs.Form.{Before, IsNamedMessage, IsNamedMessageOf, IsNamedRecord, IsPlacedLine, PlacedRecord, before_behind, placed_text}
 use Rattle.bgp_lines.specs.MessageLine.{named_text}
 use Rattle.bgp_lines.specs.Others.{named_fault}
 use Rattle.bgp_lines.specs.declared.form.LineForm.{LineForm}
 use Rattle.bgp_lines.specs.declared.form.LineForm.TheVariants.{Plain, Names}
 use Rattle.bgp_lines.proofs.OneOffer.{one_reading}
+use Rattle.bgp_json.specs.Output.{AreRecordOutputs, IsRecordOutput}
+use Rattle.bgp_json.specs.declared.output_form.OutputForm.{OutputForm}
+use Rattle.bgp_json.specs.declared.output_form.OutputForm.TheVariants.{Text, Json}
+use Rattle.bgp_json.proofs.OneOutput.{one_placed_json}
 
 -- the faults of one header have one text
 one_faulty : (limit : Limit) (header : List ℕ) (faults others : HeaderFaults) → AreFaults limit header faults → AreFaults limit header others
@@ -96,10 +100,15 @@ one_placed Plain session before placed line other h k =
 one_placed (Names as2) session before placed line other h k =
     h.2 ∙ ap (λ (t : List ℕ). t ++ codes "\n") (one_named_record session before as2 placed.packet placed.shown h.0 k.0 h.1 k.1) ∙ sym k.2
 
-pub one_text_of : (form : LineForm) (session : Session) (before : Before) (records : List PlacedRecord) (text other : List ℕ)
-    → ArePlacedLines form session before records text → ArePlacedLines form session before records other → text ≡ other
-one_text_of form session before [] text other h k = h ∙ sym k
-one_text_of form session before (placed ∷ records) text other h k =
-    let line = one_placed form session before placed h.0 k.0 h.2 k.2 in
-    let rest = one_text_of form session (before_behind placed.shown before) records h.1 k.1 h.3 k.3 in
+one_record_output : (form : OutputForm) (session : Session) (before : Before) (number : ℕ) (placed : PlacedRecord) (line other : List ℕ)
+    → IsRecordOutput form session before number placed line → IsRecordOutput form session before number placed other → line ≡ other
+one_record_output (Text form) session before number placed line other h k = one_placed form session before placed line other h k
+one_record_output (Json as2) session before number placed line other h k = one_placed_json session before as2 number placed line other h k
+
+pub one_text_of : (form : OutputForm) (session : Session) (before : Before) (number : ℕ) (records : List PlacedRecord) (text other : List ℕ)
+    → AreRecordOutputs form session before number records text → AreRecordOutputs form session before number records other → text ≡ other
+one_text_of form session before number [] text other h k = h ∙ sym k
+one_text_of form session before number (placed ∷ records) text other h k =
+    let line = one_record_output form session before number placed h.0 k.0 h.2 k.2 in
+    let rest = one_text_of form session (before_behind placed.shown before) (number + 1) records h.1 k.1 h.3 k.3 in
     h.4 ∙ ap (λ (t : List ℕ). t ++ h.1) line ∙ ap (λ (t : List ℕ). k.0 ++ t) rest ∙ sym k.4

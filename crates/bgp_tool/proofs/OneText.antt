@@ -1,35 +1,18 @@
 -- Each stream has one text and one status.
-use Rattle.std.proofs.Common.{◌≡◌, ◌∙◌, ◌++◌, ℕ, List, [], length, refl, sym, ap, subst, inl, inr, arith}
-use Rattle.bgp_wire.specs.declared.header.HeaderFaults.{HeaderFaults}
+use Rattle.std.proofs.Common.{◌≡◌, ◌∙◌, ◌++◌, ℕ, List, [], length, sym, ap, subst, inl, inr, arith}
 use Rattle.bgp_wire.specs.declared.header.Limit.{Limit}
 use Rattle.bgp_wire.specs.Header.{header_of}
-use Rattle.bgp_wire.specs.Verdict.{AreFaults}
-use Rattle.bgp_wire.proofs.OneFaultSet.{same_fields}
 use Rattle.bgp_wire.specs.Framing.{joined}
 use Rattle.bgp_wire.proofs.Front.{faulty_not_short}
 use Rattle.bgp_wire.proofs.OneFraming.{one_framing}
-use Rattle.bgp_text.specs.Text.{fault_line}
-use Rattle.bgp_lines.specs.Form.{fault_line_in}
-use Rattle.bgp_lines.specs.Others.{named_stream_fault}
-use Rattle.bgp_lines.specs.declared.form.LineForm.{LineForm}
-use Rattle.bgp_lines.specs.declared.form.LineForm.TheVariants.{Plain, Names}
+use Rattle.bgp_json.specs.declared.output_form.OutputForm.{OutputForm}
+use Rattle.bgp_json.proofs.OneOutput.{one_fault_output}
 use Rattle.bgp_tool.specs.declared.stream_options.StreamOptions.{StreamOptions}
 use Rattle.bgp_tool.specs.Decoding.{AreFrameLines, IsLastLine, IsDecoded}
 use Rattle.bgp_tool.proofs.LinesOfFrames.{one_told}
 
--- the faults of one header print one line
-one_fault_line : (limit : Limit) (form : LineForm) (offset : ℕ) (header : List ℕ) (faults others : HeaderFaults) → AreFaults limit header faults
-    → AreFaults limit header others → fault_line_in form offset faults header ≡ fault_line_in form offset others header
-unfolding fault_line named_stream_fault
-one_fault_line limit Plain offset header faults others h k =
-    let same = same_fields limit header faults others h k in
-    rw (same.0, same.1, same.2) refl
-one_fault_line limit (Names as2) offset header faults others h k =
-    let same = same_fields limit header faults others h k in
-    rw (same.0, same.1, same.2) refl
-
 -- a rest has one last line and one status
-one_last_line : (limit : Limit) (form : LineForm) (offset : ℕ) (rest line other : List ℕ) (status code : ℕ) → IsLastLine limit form offset rest line status
+one_last_line : (limit : Limit) (form : OutputForm) (offset : ℕ) (rest line other : List ℕ) (status code : ℕ) → IsLastLine limit form offset rest line status
     → IsLastLine limit form offset rest other code → (line ≡ other) × (status ≡ code)
 one_last_line limit form offset rest line other status code h k = elim h [
   | inl a ↦ elim k [
@@ -52,7 +35,7 @@ one_last_line limit form offset rest line other status code h k = elim h [
       | inr c ↦ elim c [
         | inl d ↦ absurd (faulty_not_short limit rest b.0 d.1)
         | inr d ↦ (
-          b.2.2 ∙ one_fault_line limit form offset (header_of rest) b.2.0 d.2.0 b.2.1 d.2.1 ∙ sym d.2.2,
+          b.2.2 ∙ one_fault_output limit form offset (header_of rest) b.2.0 d.2.0 b.2.1 d.2.1 ∙ sym d.2.2,
           b.1 ∙ sym d.1,
         )
       ]

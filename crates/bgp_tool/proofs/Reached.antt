@@ -1,5 +1,5 @@
 -- Each end of a decoding, from what was read and put so far and what its last call did.
-use Rattle.std.proofs.Common.{◌≡◌, ◌∙◌, ◌++◌, [], ℕ, List, false, refl, sym, ap, subst, inl, inr}
+use Rattle.std.proofs.Common.{◌≡◌, ◌∙◌, ◌++◌, ◌-◌, [], ℕ, List, length, false, refl, sym, ap, subst, inl, inr, append-nil}
 use Rattle.mrt.specs.declared.sink.Sink as sinks
 use Rattle.bgp_wire.specs.Framing.{IsShort}
 use Rattle.bgp_tool.specs.declared.decoding.End.{End}
@@ -7,9 +7,10 @@ use Rattle.bgp_tool.specs.declared.decoding.End.TheVariants as ends
 use Rattle.bgp_tool.specs.declared.stream_options.StreamOptions.{StreamOptions}
 use Rattle.bgp_text.specs.declared.lines.Lines.{Lines}
 use Rattle.bgp_text.specs.Lines.{Writes}
-use Rattle.bgp_lines.specs.Form.{rest_line_in}
+use Rattle.bgp_json.specs.Output.{rest_output}
+use Rattle.bgp_tool.specs.Decoding.{IsBeginning}
 use Rattle.bgp_tool.specs.Ending.{AreLines, HasText, has_sink_failed, HandsOver, PutsRest, Reaches}
-use Rattle.bgp_tool.proofs.Decoded.{begins, decoded}
+use Rattle.bgp_tool.proofs.Decoded.{beginning, begins, decoded}
 use Rattle.bgp_text.proofs.Pieces.{Joins, and_then, and_nothing}
 
 module _ {R W : Type 0} {sink : sinks.Ghosts W} (options : StreamOptions) (law : Joins sink) (gives : R → R → List ℕ → Type 0)
@@ -44,15 +45,17 @@ module _ {R W : Type 0} {sink : sinks.Ghosts W} (options : StreamOptions) (law :
   pub ended : (frames : List (List ℕ)) (given held text : List ℕ) → gives source after given
       → AreLines options.limit options.form [] frames given held text → IsShort options.limit held
       → Writes start before text → (end end' : End)
-      → PutsRest before mid options.form held end → HandsOver mid now end end' → Reaches options gives source after start now end'
+      → PutsRest before mid options.form (length given - length held) held end → HandsOver mid now end end' → Reaches options gives source after start now end'
   ended frames given held text gave lines short wrote ends.BetweenMessages end' puts handed =
       finished options law gives source after start mid now given (text ++ []) ends.BetweenMessages end' gave (and_then law wrote puts.1)
       (decoded options frames given held text [] 0 lines (inl (puts.0, refl, refl))) refl handed
   ended frames given held text gave lines short wrote ends.InsideMessage end' puts handed =
-      let line = rest_line_in options.form held in
+      let line = rest_output options.form (length given - length held) held in
       finished options law gives source after start mid now given (text ++ line) ends.InsideMessage end' gave (and_then law wrote puts.1)
       (decoded options frames given held text line 2 lines (inr (inl (puts.0, short, refl, refl)))) refl handed
   ended frames given held text gave lines short wrote ends.AtFault end' puts handed = absurd puts
-  ended frames given held text gave lines short wrote ends.OutOfMemory end' puts handed = absurd puts
+  ended frames given held text gave lines short wrote ends.OutOfMemory end' puts handed =
+      finished options law gives source after start mid now given (text ++ []) ends.OutOfMemory end' gave (and_then law wrote puts.1)
+      (subst (λ (t : List ℕ). IsBeginning options given t) (sym (append-nil text)) (beginning options frames given held text lines)) refl handed
   ended frames given held text gave lines short wrote ends.SourceFailed end' puts handed = absurd puts
   ended frames given held text gave lines short wrote ends.SinkFailed end' puts handed = absurd puts

@@ -5,7 +5,7 @@ use Rattle.bgp_wire.specs.declared.header.Limit.{Limit}
 use Rattle.bgp_wire.specs.Header.{header_of, IsSound}
 use Rattle.bgp_wire.specs.Verdict.{AreFaults}
 use Rattle.bgp_wire.specs.Framing.{IsFaulty, joined}
-use Rattle.bgp_lines.specs.Form.{fault_line_in}
+use Rattle.bgp_json.specs.Output.{fault_output}
 use Rattle.bgp_tool.specs.declared.stream_options.StreamOptions.{StreamOptions}
 use Rattle.bgp_tool.specs.Decoding.{IsDecoded}
 
@@ -51,7 +51,7 @@ whole_stream {options} stream given left written status is ended decoded =
               faulty.2.0,
               subst (λ (header : List ℕ). AreFaults options.limit header faulty.2.0)
                   (sym (same_header decoded.rest left faulty.0.0)) faulty.2.1,
-              faulty.2.2 ∙ ap (fault_line_in options.form (length (joined decoded.frames)) faulty.2.0) (sym (same_header decoded.rest left faulty.0.0)),
+              faulty.2.2 ∙ ap (fault_output options.form (length (joined decoded.frames)) faulty.2.0) (sym (same_header decoded.rest left faulty.0.0)),
             ),
           ));
           text = decoded.text;

@@ -9,8 +9,9 @@ use Rattle.bgp_wire.specs.Framing.{IsFraming, IsShort, IsFaulty, joined}
 use Rattle.bgp_text.specs.Message.{Message}
 use Rattle.bgp_text.specs.Text.{line_of}
 use Rattle.bgp_values.specs.declared.opens.Direction.TheVariants.{Received}
-use Rattle.bgp_lines.specs.Form.{Before, IsFrameLine, fault_line_in, rest_line_in}
-use Rattle.bgp_lines.specs.declared.form.LineForm.{LineForm}
+use Rattle.bgp_lines.specs.Form.{Before}
+use Rattle.bgp_json.specs.Output.{IsFrameOutput, fault_output, rest_output}
+use Rattle.bgp_json.specs.declared.output_form.OutputForm.{OutputForm}
 use Rattle.bgp_tool.specs.declared.stream_options.StreamOptions.{StreamOptions}
 
 -- the lines of messages in the plain form, one after another
@@ -25,22 +26,24 @@ lines_of messages = flat_map line_of messages
 abbrev pub stream_before : List (List ℕ) → Before
 stream_before frames = record { received = frames; sent = [] }
 
--- the lines of a stream's frames, one after another, where these frames came before
-abbrev pub AreFrameLines : LineForm → List (List ℕ) → List (List ℕ) → List ℕ → Type 0
+-- the lines of a stream's frames, one after another, where these frames came before: the next one
+-- stands where they end
+abbrev pub AreFrameLines : OutputForm → List (List ℕ) → List (List ℕ) → List ℕ → Type 0
 AreFrameLines form before [] text = text ≡ []
 AreFrameLines form before (frame ∷ frames) text =
-    (line rest : List ℕ) × IsFrameLine form (stream_before before) Received frame line
+    (line rest : List ℕ)
+    × IsFrameOutput form (stream_before before) Received (length (joined before)) frame line
     × AreFrameLines form (before ++ frame ∷ []) frames rest × (text ≡ line ++ rest)
 
 -- The last line, and the exit status: none and 0 where the stream ends between messages, `rest` and
 -- 2 where it ends inside one, and `fault` and 3 where a header at this offset has faults.
-abbrev pub IsLastLine : Limit → LineForm → ℕ → List ℕ → List ℕ → ℕ → Type 0
+abbrev pub IsLastLine : Limit → OutputForm → ℕ → List ℕ → List ℕ → ℕ → Type 0
 IsLastLine limit form offset rest line status =
     ((rest ≡ []) × (line ≡ []) × (status ≡ 0))
-    ⊎ ((rest ≢ []) × IsShort limit rest × (line ≡ rest_line_in form rest) × (status ≡ 2))
+    ⊎ ((rest ≢ []) × IsShort limit rest × (line ≡ rest_output form offset rest) × (status ≡ 2))
     ⊎ (IsFaulty limit rest × (status ≡ 3) × ((faults : HeaderFaults)
     × AreFaults limit (header_of rest) faults
-    × (line ≡ fault_line_in form offset faults (header_of rest))))
+    × (line ≡ fault_output form offset faults (header_of rest))))
 
 -- the stream's text and its exit status
 pub record IsDecoded (options : StreamOptions) (stream whole : List ℕ) (status : ℕ) : Type 0 where

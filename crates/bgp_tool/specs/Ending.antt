@@ -1,6 +1,6 @@
 -- How a decoding ends, and what it has read and written then.
 use Rattle.std.specs.Prelude.{◌≡◌, ◌≢◌, ◌++◌, ◌+◌, ◌-◌, ◌⊎◌, ℕ, List, [], All, length}
-use Rattle.std.specs.Prelude.{Bool, true, false, IsTrue, IsFalse}
+use Rattle.std.specs.Prelude.{Bool, true, false, IsTrue, IsFalse, Result, Ok, Err}
 use Rattle.mrt.specs.declared.sink.Sink as sinks
 use Rattle.bgp_wire.specs.declared.header.Limit.{Limit}
 use Rattle.bgp_wire.specs.Framing.{IsFrame, IsShort, joined}
@@ -9,10 +9,9 @@ use Rattle.bgp_tool.specs.declared.decoding.End.{End}
 use Rattle.bgp_tool.specs.declared.decoding.End.TheVariants as ends
 use Rattle.bgp_text.specs.declared.lines.Lines.{Lines}
 use Rattle.bgp_text.specs.Lines.{Writes}
-use Rattle.bgp_lines.specs.Form.{rest_line_in}
-use Rattle.bgp_lines.specs.Telling.{Knows}
-use Rattle.bgp_lines.specs.declared.form.LineForm.{LineForm}
-use Rattle.bgp_lines.specs.declared.teller.Teller.{Teller}
+use Rattle.bgp_json.specs.Output.{IsJson, Knows, form_of, rest_output}
+use Rattle.bgp_json.specs.declared.output_form.OutputForm.{OutputForm}
+use Rattle.bgp_json.specs.declared.output_teller.OutputTeller.{OutputTeller}
 use Rattle.bgp_tool.specs.declared.stream_options.StreamOptions.{StreamOptions}
 use Rattle.bgp_tool.specs.Decoding.{AreFrameLines, IsLastLine, IsDecoded, IsSoFar, IsBeginning}
 use Rattle.bgp_tool.specs.Decoding.{stream_before}
@@ -27,7 +26,7 @@ status_of ends.SourceFailed = 5
 status_of ends.SinkFailed = 5
 
 -- the text is the lines of these frames, which stand before the rest, where others came before
-pub record AreLines (limit : Limit) (form : LineForm) (before frames : List (List ℕ))
+pub record AreLines (limit : Limit) (form : OutputForm) (before frames : List (List ℕ))
     (octets rest lines : List ℕ) : Type 0 where
   pub split : octets ≡ joined frames ++ rest
   pub each : All (IsFrame limit) frames
@@ -92,27 +91,33 @@ module _ {W : Type 0} {sink : sinks.Ghosts W} (lines lines' : Lines W sink) wher
         ⊎ (IsTrue lines'.outlet.has_failed × (end' ≡ ends.SinkFailed))
 
   -- The whole frames that a splitter held were written, behind those that came before, up to what
-  -- is no frame; and the line of a header with faults, if one stands there. So many octets were
-  -- given when what it held ends.
-  abbrev pub PutsFrames : ℕ → List (List ℕ) → Held → Held → Teller → Teller → Bool → Type 0
-  PutsFrames given before held left old new false =
+  -- is no frame; and the line of a header with faults, if one stands there. Or memory was refused
+  -- for a line, and those before it were written. So many octets were given when what it held ends.
+  abbrev pub PutsFrames : {E : Type 0} → ℕ → List (List ℕ) → Held → Held → OutputTeller
+      → OutputTeller → Result Bool E → Type 0
+  PutsFrames given before held left old new (Ok false) =
       (frames : List (List ℕ)) × (text : List ℕ)
-      × AreLines held.limit old.form before frames held.octets left.octets text
+      × AreLines held.limit (form_of old) before frames held.octets left.octets text
       × IsShort held.limit left.octets × (left ≡ record held { octets = left.octets })
-      × (new.form ≡ old.form) × Knows new (stream_before (before ++ frames))
+      × (form_of new ≡ form_of old) × Knows new (stream_before (before ++ frames))
       × Writes lines lines' text
-  PutsFrames given before held left old new true =
+  PutsFrames given before held left old new (Ok true) =
       (frames : List (List ℕ)) × (rest text last : List ℕ)
-      × AreLines held.limit old.form before frames held.octets rest text
-      × IsLastLine held.limit old.form (given - length rest) rest last 3
+      × AreLines held.limit (form_of old) before frames held.octets rest text
+      × IsLastLine held.limit (form_of old) (given - length rest) rest last 3
       × Writes lines lines' (text ++ last)
+  PutsFrames given before held left old new (Err refused) =
+      (frames : List (List ℕ)) × (rest text : List ℕ)
+      × AreLines held.limit (form_of old) before frames held.octets rest text
+      × IsJson (form_of old) × Writes lines lines' text
 
-  -- the octets behind the last frame, at the end of the stream, were told
-  abbrev pub PutsRest : LineForm → List ℕ → End → Type 0
-  PutsRest form rest ends.BetweenMessages = (rest ≡ []) × Writes lines lines' []
-  PutsRest form rest ends.InsideMessage =
-      (rest ≢ []) × Writes lines lines' (rest_line_in form rest)
-  PutsRest form rest ends.AtFault = ⊥
-  PutsRest form rest ends.OutOfMemory = ⊥
-  PutsRest form rest ends.SourceFailed = ⊥
-  PutsRest form rest ends.SinkFailed = ⊥
+  -- the octets behind the last frame, which stand at this offset at the end of the stream, were
+  -- told, or memory was refused for their line
+  abbrev pub PutsRest : OutputForm → ℕ → List ℕ → End → Type 0
+  PutsRest form offset rest ends.BetweenMessages = (rest ≡ []) × Writes lines lines' []
+  PutsRest form offset rest ends.InsideMessage =
+      (rest ≢ []) × Writes lines lines' (rest_output form offset rest)
+  PutsRest form offset rest ends.OutOfMemory = IsJson form × Writes lines lines' []
+  PutsRest form offset rest ends.AtFault = ⊥
+  PutsRest form offset rest ends.SourceFailed = ⊥
+  PutsRest form offset rest ends.SinkFailed = ⊥

@@ -2,19 +2,20 @@
 
 ghost use Rattle.std.specs.Prelude.{◌≡◌, ◌<◌, ◌≤◌, ◌^◌, ◌+◌, ◌-◌, ◌⊎◌, IsTrue, List, ℕ, length};
 ghost use Rattle.std.specs.Prelude.{false};
-ghost use Rattle.bgp_lines.specs.Telling.{Knows};
+ghost use Rattle.bgp_wire.specs.Framing.{joined};
+ghost use Rattle.bgp_json.specs.Output.{Knows, form_of};
 ghost use Rattle.bgp_tool.specs.Decoding.{CountsFailures, Decodes, stream_before};
 ghost use Rattle.bgp_tool.specs.Ending.{PutsFrames, PutsRest, HandsOver};
 ghost use Rattle.bgp_tool.specs.Ending.{Reaches, IsAtEnd, source_failures};
 
 use crate::status::Status;
 use crate::stream_options::StreamOptions;
-use bgp_lines::Teller;
+use bgp_json::OutputTeller;
 use bgp_text::Lines;
 use bgp_values::Direction;
 use bgp_wire::{Frames, Next};
 use mrt::{Sink, Source};
-use std::alloc::Allocator;
+use std::alloc::{AllocError, Allocator};
 
 /// How a decoding ended.
 #[derive(Clone, Copy)]
@@ -25,7 +26,7 @@ enum End {
     InsideMessage,
     /// A header with faults came.
     AtFault,
-    /// A growth was refused.
+    /// Memory was refused for a growth or for a line.
     OutOfMemory,
     /// A read failed.
     SourceFailed,
@@ -59,46 +60,61 @@ fn offset_of_held(given: u64, held: usize) -> u64
 }
 
 /// Writes the line of each whole frame that is held, and of a header with faults behind them;
-/// answers whether there is one. So many octets were given in all.
+/// answers whether there is one. So many octets were given in all. It stops at a line for which
+/// memory is refused.
 ///
 /// A stream shows one direction, and not which: all its messages are told as received ones.
 fn put_frames<W: Sink, A: Allocator + Copy>(
+    alloc: A,
     frames: &mut Frames<A>,
-    teller: &mut Teller,
+    teller: &mut OutputTeller,
     lines: &mut Lines<'_, W>,
     given: u64,
-) -> bool
+) -> Result<bool, AllocError>
     requires open { frames.old.is_closed ≡ false }
     requires given { length frames.old.octets ≤ given }
-    ensures { (before : List (List ℕ)) → Knows teller.old (stream_before before)
+    ensures { (before : List (List ℕ))
+        → given ≡ length (joined before) + length frames.old.octets
+        → Knows teller.old (stream_before before)
         → PutsFrames lines.old lines.new given before frames.old frames.new teller.old teller.new
         result }
 {
     loop {
+        let offset = offset_of_held(given, frames.len());
         match frames.next() {
             Next::Frame(kind, frame) => {
-                teller.put_frame(lines, Direction::Received, kind, frame);
+                teller.put_frame(lines, alloc, Direction::Received, offset, kind, frame)?;
             }
-            Next::More => return false,
+            Next::More => return Ok(false),
             Next::Fault(faults, header) => {
-                let header = *header;
-                let offset = offset_of_held(given, frames.len());
-                teller.put_fault(lines, offset, faults, &header);
-                return true;
+                teller.put_fault(lines, alloc, offset, faults, header)?;
+                return Ok(true);
             }
         }
     }
 }
 
-/// Tells what octets stand behind the last frame where the stream ends, if any do.
-fn put_rest<W: Sink>(teller: &Teller, lines: &mut Lines<'_, W>, octets: &[u8]) -> End
-    ensures { PutsRest lines.old lines.new teller.now.form octets.now result }
+/// Tells what octets stand behind the last frame where the stream ends, if any do. So many octets
+/// were given in all.
+fn put_rest<W: Sink, A: Allocator + Copy>(
+    alloc: A,
+    teller: &OutputTeller,
+    lines: &mut Lines<'_, W>,
+    given: u64,
+    octets: &[u8],
+) -> End
+    requires { length octets.now ≤ given }
+    ensures { PutsRest lines.old lines.new (form_of teller.now) (given - length octets.now)
+        octets.now result }
 {
     if octets.is_empty() {
         return End::BetweenMessages;
     }
-    teller.put_rest(lines, octets);
-    End::InsideMessage
+    let offset = offset_of_held(given, octets.len());
+    match teller.put_rest(lines, alloc, offset, octets) {
+        Ok(()) => End::InsideMessage,
+        Err(AllocError) => End::OutOfMemory,
+    }
 }
 
 /// Hands over what is left of the text, and answers how the decoding ends then.
@@ -127,7 +143,7 @@ fn decode<R: Source, W: Sink, A: Allocator + Copy>(
     ensures ended { IsAtEnd result → IsTrue (R.has_ended source.new) }
 {
     let mut frames = Frames::new(alloc, options.limit);
-    let mut teller = Teller::new(options.form);
+    let mut teller = OutputTeller::new(options.form);
     let mut block = [0; BLOCK];
     let mut given = 0u64;
     'reads: loop {
@@ -140,15 +156,17 @@ fn decode<R: Source, W: Sink, A: Allocator + Copy>(
             Err(_) => return End::SourceFailed,
         };
         if count == 0 {
-            let end = put_rest(&teller, lines, frames.held());
+            let end = put_rest(alloc, &teller, lines, given, frames.held());
             return hand_over(lines, end);
         }
         match frames.feed(&block[..count]) {
             Ok(()) => given += count as u64,
             Err(_) => return End::OutOfMemory,
         }
-        if put_frames(&mut frames, &mut teller, lines, given) {
-            return hand_over(lines, End::AtFault);
+        match put_frames(alloc, &mut frames, &mut teller, lines, given) {
+            Ok(false) => {}
+            Ok(true) => return hand_over(lines, End::AtFault),
+            Err(AllocError) => return hand_over(lines, End::OutOfMemory),
         }
     }
 }
@@ -158,16 +176,18 @@ fn decode<R: Source, W: Sink, A: Allocator + Copy>(
 /// be as long as the limit says (RFC 4271, 4.1; RFC 8654, 4).
 ///
 /// In the plain form the lines are those of bgp_text's `specs/Text.antt`. In words (bgp_lines'
-/// `specs/Form.antt`) AS numbers have two octets if that is asked for, or the last OPEN before offers
-/// none of four; path identifiers are taken for prefixes, since one direction doesn't show what both
-/// OPENs offer.
+/// `specs/Form.antt`) and in JSON (bgp_json's `specs/Output.antt`) AS numbers have two octets if
+/// that is asked for, or the last OPEN before offers none of four; path identifiers are taken for
+/// prefixes, since one direction doesn't show what both OPENs offer.
 ///
 /// Answers the exit status:
 ///
 /// * 0: all octets were whole messages.
-/// * 2: the stream ends inside a message; the last line is `rest N`, in words with the octets.
+/// * 2: the stream ends inside a message; the last line is `rest N`, in words and in JSON with the
+///   octets.
 /// * 3: a header has faults; the last line is `fault at OFFSET 1/S ..` (RFC 4271, 6.1).
-/// * 4: a growth was refused. No device failed, and a beginning of the text is written.
+/// * 4: memory was refused, for a growth or, in JSON, for a line. No device failed, and a beginning
+///   of the text is written.
 /// * 5: a device failed. Where it is the source, the lines of the frames that it gave are written,
 ///   and else a beginning of the text.
 pub fn decode_raw<R: Source, W: Sink, A: Allocator + Copy>(

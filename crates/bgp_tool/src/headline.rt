@@ -64,8 +64,8 @@ pub fn each_capture_has_one_verdict()
 /// Where the status is 0, 2 or 3, the text is exactly the lines of the stream's one framing, with
 /// the last line that tells how it ends, and the status says which end it is
 /// ([`each_stream_has_one_text`](crate::each_stream_has_one_text)). Else memory was refused, to the
-/// splitter (4) or to the text (5), and the text is a beginning of that of the octets that were
-/// read.
+/// splitter or to a line (4), or to the text (5), and the text is a beginning of that of the octets
+/// that were read.
 pub fn text_and_status<A: Allocator + Copy>(
     options: StreamOptions,
     alloc: A,

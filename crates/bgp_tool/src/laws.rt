@@ -8,9 +8,11 @@ ghost use Rattle.bgp_wire.specs.Framing.{IsFrame};
 ghost use Rattle.bgp_open.specs.declared.route_form.RouteForm.{RouteForm};
 ghost use Rattle.bgp_text.specs.Capture.{AreRecordLines};
 ghost use Rattle.bgp_text.specs.Message.{Message, Say, Says};
-ghost use Rattle.bgp_lines.specs.Form.{ArePlacedLines, Before, PlacedRecord};
-ghost use Rattle.bgp_lines.specs.declared.form.LineForm.{LineForm};
+ghost use Rattle.bgp_lines.specs.Form.{Before, PlacedRecord};
 ghost use Rattle.bgp_lines.specs.declared.form.LineForm.TheVariants.{Plain};
+ghost use Rattle.bgp_json.specs.Output.{AreRecordOutputs};
+ghost use Rattle.bgp_json.specs.declared.output_form.OutputForm.{OutputForm};
+ghost use Rattle.bgp_json.specs.declared.output_form.OutputForm.TheVariants.{Text};
 ghost use Rattle.bgp_tool.specs.Decoding.{AreFrameLines, IsDecoded, lines_of};
 ghost use Rattle.bgp_tool.specs.declared.stream_options.StreamOptions.{StreamOptions};
 
@@ -27,18 +29,21 @@ pub fn each_stream_has_one_text()
     ensures one { (options : StreamOptions) (stream text other : List ℕ) (status code : ℕ)
         → IsDecoded options stream text status → IsDecoded options stream other code
         → (text ≡ other) × (status ≡ code) }
-    ensures plain { (frames : List (List ℕ)) (text : List ℕ) → AreFrameLines Plain [] frames text
+    ensures plain { (frames : List (List ℕ)) (text : List ℕ)
+        → AreFrameLines (Text Plain) [] frames text
         → (messages : List Message) × Say frames messages × (text ≡ lines_of messages) }
 {}
 
 /// Laws: the records of a session have one text in each form, whatever came before them; and in the
-/// plain form the lines are those of the records, each by itself, whatever packets show them.
+/// plain form the lines are those of the records, each by itself, whatever their numbers are and
+/// whatever packets show them.
 pub fn each_session_has_one_text()
-    ensures one { (form : LineForm) (session : Session) (before : Before)
+    ensures one { (form : OutputForm) (session : Session) (before : Before) (number : ℕ)
         (records : List PlacedRecord) (text other : List ℕ)
-        → ArePlacedLines form session before records text
-        → ArePlacedLines form session before records other → text ≡ other }
-    ensures plain { (session : Session) (before : Before) (records : List PlacedRecord)
-        (text : List ℕ) → ArePlacedLines Plain session before records text
+        → AreRecordOutputs form session before number records text
+        → AreRecordOutputs form session before number records other → text ≡ other }
+    ensures plain { (session : Session) (before : Before) (number : ℕ)
+        (records : List PlacedRecord) (text : List ℕ)
+        → AreRecordOutputs (Text Plain) session before number records text
         ↔ AreRecordLines session (map (λ placed. placed.shown) records) text }
 {}

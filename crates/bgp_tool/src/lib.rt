@@ -1,10 +1,10 @@
 //! The commands of the program `bgp`, each as one function over sources and sinks.
 //!
-//! What a command prints is stated in the specs of bgp_text and bgp_lines, but for a verdict's text,
-//! which is stated in `specs/VerdictText.antt`; what it answers is an exit status:
+//! What a command prints is stated in the specs of bgp_text, bgp_lines and bgp_json, but for a
+//! verdict's text, which is stated in `specs/VerdictText.antt`; what it answers is an exit status:
 //!
 //! ```text
-//! let options = StreamOptions { limit: Limit::Plain, form: LineForm::Plain };
+//! let options = StreamOptions { limit: Limit::Plain, form: OutputForm::Json { as2: false } };
 //! let status = decode_raw(options, alloc, &mut source, &mut sink);
 //! ```
 #![tactic(auto)]

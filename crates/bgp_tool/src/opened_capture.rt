@@ -66,7 +66,7 @@ fn decode_reader<'a, R: Read + Ready + Drop, W: Write, A: Allocator + Copy>(
     let source = WithFront::new(FromRead::new(reader));
     let mut records = Reader::new(alloc);
     let failures = sink.failures();
-    let decoded = decode_with(&mut records, options, source, sink);
+    let decoded = decode_with(alloc, &mut records, options, source, sink);
     let Decoded {
         source,
         status,

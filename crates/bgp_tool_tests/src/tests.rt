@@ -5,10 +5,12 @@
 mod captures;
 mod fronts;
 mod great;
+mod json;
 mod judging;
 mod opened;
 mod words;
 
+use bgp_json::OutputForm;
 use bgp_lines::LineForm;
 use bgp_tool::*;
 use bgp_wire::Limit;
@@ -26,7 +28,7 @@ const FIVE_OCTETS: [u8; 5] = [255; 5];
 /// Streams of messages of 4096 octets at the most, without words.
 static PLAIN: StreamOptions = StreamOptions {
     limit: Limit::Plain,
-    form: LineForm::Plain,
+    form: OutputForm::Text(LineForm::Plain),
 };
 
 /// A session's opening and end, and the front of a message that never came whole.

@@ -2,6 +2,7 @@
 //! program `real_captures`.
 
 use super::*;
+use bgp_json::OutputForm;
 use bgp_lines::LineForm;
 use bgp_prefix::{Address, RouteRefresh, Session};
 use bgp_tool::SessionOptions;
@@ -15,7 +16,7 @@ const OPTIONS: SessionOptions = SessionOptions {
         refresh: RouteRefresh::NotOffered,
         extended: false,
     },
-    form: LineForm::Plain,
+    form: OutputForm::Text(LineForm::Plain),
 };
 
 /// A change from Idle to Connect at second 100.
@@ -42,7 +43,7 @@ fn decoded<A: Allocator + Copy>(
     let mut source = MemSource::new(capture).upset_at(read, SourceUpset::Fail);
     let mut sink = MemSink::new(alloc).upset_at(write, SinkUpset::Fail);
     let mut reader = Reader::new(memory);
-    let status = decode_capture(&mut reader, &OPTIONS, &mut source, &mut sink);
+    let status = decode_capture(memory, &mut reader, &OPTIONS, &mut source, &mut sink);
     (
         (sink.into_octets(), status),
         (reader.has_answered(), source.given()),

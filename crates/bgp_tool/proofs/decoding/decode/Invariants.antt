@@ -1,7 +1,7 @@
 use Rattle.std.proofs.Common.{◌≡◌, ◌-◌, ◌^◌, ℕ, List, [], length, false}
 use Rattle.bgp_wire.specs.Framing.{IsShort}
 use Rattle.bgp_text.specs.Lines.{Writes}
-use Rattle.bgp_lines.specs.Telling.{Knows}
+use Rattle.bgp_json.specs.Output.{Knows, form_of}
 use Rattle.bgp_tool.specs.Decoding.{stream_before}
 use Rattle.bgp_tool.specs.Ending.{AreLines}
 use Rattle.bgp_tool.proofs.decoding.decode.Given as goal
@@ -12,7 +12,7 @@ invariant-reads g l =
     record {
       state : l.frames ≡ record { limit = l.fn.options.limit; octets = l.frames.octets; is_closed = false };
       short : IsShort l.fn.options.limit l.frames.octets;
-      form : l.teller.form ≡ l.fn.options.form;
+      form : form_of l.teller ≡ l.fn.options.form;
       failures : g.R.Source.failures l.source ≡ g.R.Source.failures l.fn.source;
       so_far : (stream text : List ℕ) × g.R.Source.gives l.fn.source l.source stream × (l.given ≡ length stream)
           × ((frames : List (List ℕ)) × AreLines l.fn.options.limit l.fn.options.form [] frames stream l.frames.octets text

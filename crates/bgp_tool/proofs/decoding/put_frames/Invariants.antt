@@ -1,6 +1,7 @@
-use Rattle.std.proofs.Common.{◌≡◌, ◌≤◌, ◌++◌, List, ℕ, length}
+use Rattle.std.proofs.Common.{◌≡◌, ◌≤◌, ◌+◌, ◌++◌, List, ℕ, length}
+use Rattle.bgp_wire.specs.Framing.{joined}
 use Rattle.bgp_text.specs.Lines.{Writes}
-use Rattle.bgp_lines.specs.Telling.{Knows}
+use Rattle.bgp_json.specs.Output.{Knows, form_of}
 use Rattle.bgp_tool.specs.Decoding.{stream_before}
 use Rattle.bgp_tool.specs.Ending.{AreLines}
 use Rattle.bgp_tool.proofs.decoding.put_frames.Given as goal
@@ -11,10 +12,10 @@ invariant-loop-kind g l =
     record {
       state : l.frames ≡ record l.fn.frames { octets = l.frames.octets };
       fewer : length l.frames.octets ≤ length l.fn.frames.octets;
-      form : l.teller.form ≡ l.fn.teller.form;
-      written : (before : List (List ℕ)) → Knows l.fn.teller (stream_before before)
+      form : form_of l.teller ≡ form_of l.fn.teller;
+      written : (before : List (List ℕ)) → l.given ≡ length (joined before) + length l.fn.frames.octets → Knows l.fn.teller (stream_before before)
           → (frames : List (List ℕ)) × (text : List ℕ)
-          × AreLines l.fn.frames.limit l.fn.teller.form before frames l.fn.frames.octets l.frames.octets text
+          × AreLines l.fn.frames.limit (form_of l.fn.teller) before frames l.fn.frames.octets l.frames.octets text
           × Knows l.teller (stream_before (before ++ frames)) × Writes l.fn.lines l.lines text;
     }
 

@@ -5,5 +5,5 @@ use Rattle.bgp_tool.proofs.laws.each_session_has_one_text.Goals as goal
 pub returns : goal.returns
 returns c = record {
   one = one_text_of;
-  plain = λ session before records text. (plain_lines session before records text, lines_plainly session before records text);
+  plain = λ session before number records text. (plain_lines session before number records text, lines_plainly session before number records text);
 }

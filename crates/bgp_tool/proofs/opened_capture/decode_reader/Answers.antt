@@ -48,7 +48,10 @@ returns-clause-decoded g c =
         | then-failures w ↦ rw w.note-is (of_writer Decode file last octets found (fault_in decoded.answer) None old new status w.unwritten-note.result
             (elim decoded.all [
               | inl calm ↦ inl calm.0
-              | inr broken ↦ inr broken.1
+              | inr others ↦ elim others [
+                | inl broken ↦ inr broken.1
+                | inr lacking ↦ inl lacking.0
+              ]
             ]) (omega (arith, w.if-failures.true, c.failures.ensures, c.failures-failures.ensures)) w.unwritten-note.ensures)
         | else-failures w ↦ rw w.note-is (of_reader Decode file last octets found (fault_in decoded.answer) None old new status w.note_of-note.result
             (omega (arith, w.if-failures.false, c.failures.ensures, c.failures-failures.ensures))
