@@ -1,6 +1,9 @@
 pub mod Texts
 pub mod Seconds
 pub mod Apart
+pub mod Shallow
+pub mod Objects
+pub mod RefusalPrinted
 pub mod PutSoFar
 pub mod AllListed
 pub mod Each

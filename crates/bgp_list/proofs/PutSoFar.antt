@@ -22,7 +22,9 @@ use Rattle.bgp_import.specs.declared.talks.Talks.{Talks}
 use Rattle.bgp_import.proofs.ListedSoFar.{among_keys}
 use Rattle.bgp_list.specs.Firsts.{firsts_after, with_first}
 use Rattle.bgp_list.specs.Lines.{IsLineAt, LineValue, line_text, line_value, refusal_in}
-use Rattle.bgp_list.specs.Recording.{AreLinesOf, PutsAll}
+use Rattle.bgp_list.specs.Forms.{IsInForm, line_in}
+use Rattle.bgp_list.specs.Recording.{AreInForm, AreLinesOf, PutsAll, lines_in}
+use Rattle.bgp_list.specs.declared.form.ListForm.{ListForm}
 use Rattle.bgp_list.specs.declared.line.Line.{Line}
 
 -- ---- lists
@@ -144,25 +146,31 @@ added_more list i d firsts middle new within so_far one =
 pub all_taken : (list : List Line) (i : ℕ) → length list ≤ i → map line_value (take i list) ≡ map line_value list
 all_taken list i past = ap (map line_value) (take_all i list past)
 
-texts_are : (placed : List (ℕ × LineValue)) → flat_map (λ (l : ℕ × LineValue). line_text l.1) placed ≡ flat_map line_text (map (λ (l : ℕ × LineValue). l.1) placed)
-texts_are [] = refl
-texts_are (l ∷ placed) = ap (λ (t : List ℕ). line_text l.1 ++ t) (texts_are placed)
+texts_are : (form : ListForm) (placed : List (ℕ × LineValue)) → lines_in form placed ≡ flat_map (line_in form) (map (λ (l : ℕ × LineValue). l.1) placed)
+texts_are form [] = refl
+texts_are form (l ∷ placed) = ap (λ (t : List ℕ). line_in form l.1 ++ t) (texts_are form placed)
+
+forms_are : (form : ListForm) (placed : List (ℕ × LineValue)) → AllByRecursion (λ line. IsInForm form (line_in form line)) (map (λ (l : ℕ × LineValue). l.1) placed) → AreInForm form placed
+forms_are form [] all = tt
+forms_are form (l ∷ placed) all = (all.0, forms_are form placed all.1)
 
 refusals_are : (placed : List (ℕ × LineValue)) → map (λ (l : ℕ × LineValue). refusal_in l.1) placed ≡ map refusal_in (map (λ (l : ℕ × LineValue). l.1) placed)
 refusals_are [] = refl
 refusals_are (l ∷ placed) = ap (λ (rs : List (Option Refusal)). refusal_in l.1 ∷ rs) (refusals_are placed)
 
-pub all_put : {T Z : Type 0} {sink : sinks.Ghosts T} (port : ℕ) (packets : List Recorded) (talks : Talks Z) (last_packet : ℕ) (list : List Line) (lines lines' : Lines T sink)
-    (firsts firsts' : List (Option Refusal)) (count : ℕ) → AreLinesOf port packets talks last_packet (map line_value list) → Writes lines lines' (flat_map line_text (map line_value list))
-    → firsts' ≡ firsts_after firsts (map refusal_in (map line_value list)) → count ≡ length list → PutsAll port packets talks last_packet lines lines' firsts firsts' (Ok count)
-all_put port packets talks last_packet list lines lines' firsts firsts' count made wrote added counted = record {
+pub all_put : {T Z : Type 0} {sink : sinks.Ghosts T} (port : ℕ) (form : ListForm) (packets : List Recorded) (talks : Talks Z) (last_packet : ℕ) (list : List Line) (lines lines' : Lines T sink)
+    (firsts firsts' : List (Option Refusal)) (count : ℕ) → AreLinesOf port packets talks last_packet (map line_value list)
+    → Writes lines lines' (flat_map (line_in form) (map line_value list)) × AllByRecursion (λ line. IsInForm form (line_in form line)) (map line_value list)
+    → firsts' ≡ firsts_after firsts (map refusal_in (map line_value list)) → count ≡ length list → PutsAll port form packets talks last_packet lines lines' firsts firsts' (Ok count)
+all_put port form packets talks last_packet list lines lines' firsts firsts' count made wrote added counted = record {
   places = keys_of made.placed;
   rise = made.rise;
   puts = record {
     put = made.placed;
     told = made.told;
     are_places = refl;
-    wrote = subst (λ (t : List ℕ). Writes lines lines' t) (sym (texts_are made.placed ∙ ap (flat_map line_text) made.are)) wrote;
+    wrote = subst (λ (t : List ℕ). Writes lines lines' t) (sym (texts_are form made.placed ∙ ap (flat_map (line_in form)) made.are)) wrote.0;
+    in_form = forms_are form made.placed (subst (λ (ls : List LineValue). AllByRecursion (λ line. IsInForm form (line_in form line)) ls) (sym made.are) wrote.1);
     added = added ∙ ap (firsts_after firsts) (sym (refusals_are made.placed ∙ ap (map refusal_in) made.are));
   };
   lacks = inl refl;
@@ -178,12 +186,13 @@ no_keys : IsStrictlySortedBy nat_cmp []
 unfolding IsStrictlySortedBy
 no_keys = tt
 
-pub none_put : {T Z : Type 0} {sink : sinks.Ghosts T} (port : ℕ) (packets : List Recorded) (talks : Talks Z) (last_packet : ℕ) (lines : Lines T sink) (firsts : List (Option Refusal))
-    (refusal : Refusal) → Writes lines lines [] → refusal ≡ refusals.Memory last_packet → PutsAll port packets talks last_packet lines lines firsts firsts (Err refusal)
-none_put port packets talks last_packet lines firsts refusal wrote is = record {
+pub none_put : {T Z : Type 0} {sink : sinks.Ghosts T} (port : ℕ) (form : ListForm) (packets : List Recorded) (talks : Talks Z) (last_packet : ℕ) (lines lines' : Lines T sink)
+    (firsts : List (Option Refusal)) (refusal : Refusal) → Writes lines lines' [] → refusal ≡ refusals.Memory last_packet
+    → PutsAll port form packets talks last_packet lines lines' firsts firsts (Err refusal)
+none_put port form packets talks last_packet lines lines' firsts refusal wrote is = record {
   places = [];
   rise = no_keys;
-  puts = record { put = []; told = tt; are_places = refl; wrote = wrote; added = refl };
+  puts = record { put = []; told = tt; are_places = refl; wrote = wrote; in_form = tt; added = refl };
   lacks = inr (ap (λ (r : Refusal). Some r) is);
   none = inr refl;
   count = refl;

@@ -2,7 +2,14 @@ pub mod Causes
 pub mod Connections
 pub mod Firsts
 pub mod Lines
+pub mod Sessions
+pub mod JsonMembers
+pub mod EndedJson
+pub mod ConnectionJson
+pub mod SessionJson
+pub mod Objects
+pub mod RefusalLine
+pub mod Forms
 pub mod Recording
 pub mod EachListed
-pub mod Sessions
 pub mod Capture

@@ -9,17 +9,21 @@ ghost use Rattle.bgp_tool.specs.Status.{code_of};
 ghost use Rattle.bgp_tool.specs.declared.note.CaptureCommand.TheVariants.{List as ListCommand};
 ghost use Rattle.mrt_sessions.specs.File.{Located};
 ghost use Rattle.mrt_sessions.specs.Sessions.{HoldsSessions, held_records};
-ghost use Rattle.bgp_list.specs.Capture.{Lists, ListsCapture, status_of};
+ghost use Rattle.bgp_list.specs.Capture.{Lists, ListsCapture, PutsSessions, status_of};
+ghost use Rattle.bgp_list.specs.Forms.{IsFaultInForm, IsInForm, fault_in, stopped_in};
 ghost use Rattle.bgp_list.specs.Sessions.{fault_text, refused_text, session_line};
 ghost use Rattle.bgp_list.specs.Sessions.{sessions_text};
 
 use crate::cause::capture_cause;
+use crate::form::ListForm;
+use crate::json_text::objects_of_sessions;
+use crate::refusal_json::put_fault_json;
 use crate::session::put_session;
 use bgp_text::Lines;
 use bgp_tool::{CaptureCommand, Note, Status, hand_over, without_records};
 use mrt::{CaptureFault, FaultKind, Sink, Source};
 use mrt_sessions::{Addresses, Ending, Sessions, hold, records_in};
-use std::alloc::Allocator;
+use std::alloc::{AllocError, Allocator};
 
 /// How listing a capture ended.
 #[derive(Clone, Copy, Debug)]
@@ -69,7 +73,7 @@ fn put_held<W: Sink, A: Allocator + Copy>(
     }
 }
 
-/// The lines of all sessions, in the order of their first records.
+/// The lines of all sessions as text, in the order of their first records.
 fn put_sessions<W: Sink, A: Allocator + Copy>(lines: &mut Lines<'_, W>, sessions: &Sessions<'_, A>)
     ensures { (named : List Located) → HoldsSessions named sessions.now
         → Writes lines.old lines.new (sessions_text named) }
@@ -79,16 +83,54 @@ fn put_sessions<W: Sink, A: Allocator + Copy>(lines: &mut Lines<'_, W>, sessions
     }
 }
 
+/// The lines of all sessions as JSON, or none where there is no memory for all of them.
+fn put_session_objects<W: Sink, A: Allocator + Copy>(
+    alloc: A,
+    lines: &mut Lines<'_, W>,
+    sessions: &Sessions<'_, A>,
+) -> Result<(), AllocError>
+    ensures { (named : List Located) → HoldsSessions named sessions.now
+        → PutsSessions result ListForm.Json lines.old lines.new named }
+{
+    match objects_of_sessions(alloc, sessions) {
+        Ok(text) => {
+            lines.put(text.as_slice());
+            Ok(())
+        }
+        Err(fault) => Err(fault),
+    }
+}
+
+/// The lines of all sessions, or none where there is no memory for all of them.
+fn put_in_form<W: Sink, A: Allocator + Copy>(
+    alloc: A,
+    lines: &mut Lines<'_, W>,
+    form: ListForm,
+    sessions: &Sessions<'_, A>,
+) -> Result<(), AllocError>
+    ensures { (named : List Located) → HoldsSessions named sessions.now
+        → PutsSessions result form lines.old lines.new named }
+{
+    match form {
+        ListForm::Text => {
+            put_sessions(lines, sessions);
+            Ok(())
+        }
+        ListForm::Json => put_session_objects(alloc, lines, sessions),
+    }
+}
+
 /// Puts the lines of all sessions whose records these octets have. Returns how many there are, and
 /// why the file isn't read to its end, if it isn't.
 fn put_listed<W: Sink, A: Allocator + Copy>(
     alloc: A,
+    form: ListForm,
     octets: &[u8],
     ending: Ending,
     lines: &mut Lines<'_, W>,
 ) -> (usize, Option<CaptureFault>)
     ensures { (text : List ℕ) × Writes lines.old lines.new text
-        × Lists octets.now ending text result.0 result.1 }
+        × Lists form octets.now ending text result.0 result.1 }
 {
     let Ok(file) = records_in(alloc, octets) else {
         lines.put(b"");
@@ -98,7 +140,9 @@ fn put_listed<W: Sink, A: Allocator + Copy>(
         lines.put(b"");
         return (0, Some(NO_MEMORY));
     };
-    put_sessions(lines, &sessions);
+    let Ok(()) = put_in_form(alloc, lines, form, &sessions) else {
+        return (0, Some(NO_MEMORY));
+    };
     (sessions.in_order().len(), file.fault(ending))
 }
 
@@ -124,6 +168,28 @@ pub fn put_fault<W: Sink>(lines: &mut Lines<'_, W>, fault: Option<CaptureFault>)
 {
     match fault {
         Some(fault) => put_refused(lines, fault),
+        None => lines.put(b""),
+    }
+}
+
+/// Puts why a capture isn't read to its end.
+fn put_stopped<W: Sink>(lines: &mut Lines<'_, W>, form: ListForm, fault: CaptureFault)
+    ensures wrote { Writes lines.old lines.new (stopped_in form fault) }
+    ensures in_form { IsInForm form (stopped_in form fault) }
+{
+    match form {
+        ListForm::Text => put_refused(lines, fault),
+        ListForm::Json => put_fault_json(lines, fault),
+    }
+}
+
+/// Puts why a capture isn't read to its end, if it isn't.
+fn put_fault_in<W: Sink>(lines: &mut Lines<'_, W>, form: ListForm, fault: Option<CaptureFault>)
+    ensures wrote { Writes lines.old lines.new (fault_in form fault) }
+    ensures in_form { IsFaultInForm form fault }
+{
+    match fault {
+        Some(fault) => put_stopped(lines, form, fault),
         None => lines.put(b""),
     }
 }
@@ -155,9 +221,9 @@ fn status_of(fault: Option<CaptureFault>) -> Status
     }
 }
 
-/// Writes a line for each session in a capture, in the order of their first records, and last,
-/// where the file can't be read to its end, why: `refused at octet N: NUMBER NAME, CAUSE`. It
-/// answers the exit status:
+/// Writes a line in this form for each session in a capture, in the order of their first records,
+/// and last, where the file can't be read to its end, why:
+/// `refused at octet N: NUMBER NAME, CAUSE`. It answers the exit status:
 ///
 /// * 0: the file was read to its end.
 /// * 3: it is refused.
@@ -167,18 +233,20 @@ fn status_of(fault: Option<CaptureFault>) -> Status
 /// The file is held whole.
 pub fn list_capture<A: Allocator + Copy, R: Source, W: Sink>(
     alloc: A,
+    form: ListForm,
     source: &mut R,
     sink: &mut W,
 ) -> ListedCapture
     requires source { R.failures source.old < u64.MAX }
     requires sink { W.failures sink.old < u64.MAX }
-    ensures { ListsCapture R.gives R.has_ended W.takes R.failures W.failures
+    ensures { ListsCapture R.gives R.has_ended W.takes R.failures W.failures form
         source.old source.new sink.old sink.new result.status result.sessions result.fault }
 {
     let held = hold(alloc, source);
     let mut lines = Lines::new(sink);
-    let (sessions, fault) = put_listed(alloc, held.octets.as_slice(), held.ending, &mut lines);
-    put_fault(&mut lines, fault);
+    let octets = held.octets.as_slice();
+    let (sessions, fault) = put_listed(alloc, form, octets, held.ending, &mut lines);
+    put_fault_in(&mut lines, form, fault);
     let status = hand_over(&mut lines, status_of(fault));
     // No effect: it ends the loan of the sink.
     lines.into_sink();

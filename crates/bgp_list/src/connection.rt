@@ -68,7 +68,7 @@ fn put_opening<W: Sink>(lines: &mut Lines<'_, W>, session: &Session, opening: Op
 }
 
 /// The AS number in the OPEN of one of the systems, if it sent one.
-fn as_of(side: Side, outline: &Outline<'_>) -> Option<u32>
+pub(crate) fn as_of(side: Side, outline: &Outline<'_>) -> Option<u32>
     ensures { result ≡ as_of side (outline_value outline.now) }
 {
     match side {

@@ -2,7 +2,7 @@
 //! records.
 //!
 //! ```text
-//! let listed = list_recording(alloc, 179, &mut source, &mut sink);
+//! let listed = list_recording(alloc, 179, ListForm::Text, &mut source, &mut sink);
 //! for refusal in listed.refusals.iter().flatten() {
 //!     help_against(refusal);
 //! }
@@ -13,18 +13,26 @@
 mod capture;
 mod cause;
 mod connection;
+mod connection_json;
+mod ended_json;
 mod firsts;
+mod form;
+mod json_text;
 mod laws;
 mod line;
 mod listed;
+mod members;
 mod recording;
+mod refusal_json;
 mod session;
+mod session_json;
 
 pub use capture::{ListedCapture, fault_status, list_capture, put_fault};
 pub use connection::{
     endpoint_of, put_connection, put_refused, put_refused_between, put_refused_connection,
 };
 pub use firsts::{NUMBERS, add_first};
+pub use form::ListForm;
 pub use laws::each_of_them_is_listed;
 pub use line::Line;
 pub use listed::{ListedRecording, NothingListed};

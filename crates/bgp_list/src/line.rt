@@ -6,13 +6,17 @@ ghost use Rattle.streams.specs.Held.{HoldsConnections};
 ghost use Rattle.streams.specs.Passed.{Segment};
 ghost use Rattle.bgp_import.specs.Listed.{CanBeTold, IsListed};
 ghost use Rattle.bgp_import.specs.Talks.{AreHeld};
+ghost use Rattle.json.specs.Tree.{json_tokens};
 ghost use Rattle.bgp_text.specs.Lines.{Writes};
+ghost use Rattle.bgp_json_values.specs.Adding.{Adds};
 
 use crate::connection::{put_connection, put_refused_between, put_refused_connection};
+use crate::connection_json::{write_connection, write_refused_between, write_refused_connection};
 use bgp_ended::{Outline, outline_of};
 use bgp_import::{Listed, Refusal, octets_from, other_side, refused, selection_of};
 use bgp_prefix::Session;
 use bgp_text::Lines;
+use json::Writer;
 use mrt::Sink;
 use segments::Addresses;
 use std::alloc::{AllocError, Allocator};
@@ -31,6 +35,7 @@ pub enum Line<'a> {
 }
 
 impl<'a> Line<'a> {
+    ghost use Rattle.bgp_list.specs.Forms.{line_json};
     ghost use Rattle.bgp_list.specs.Lines.{IsLineAt, IsLineOf, line_text, line_value, refusal_in};
 
     /// That of the connection of these that was opened so. `AllocError` is answered where there is
@@ -110,6 +115,28 @@ impl<'a> Line<'a> {
             }
             Line::AllRefused(addresses, refusal) => {
                 put_refused_between(lines, *addresses, *refusal);
+            }
+        }
+    }
+
+    /// Writes its object.
+    pub(crate) fn write<A: Allocator + Copy>(
+        &self,
+        writer: &mut Writer<A>,
+        alloc: A,
+    ) -> Result<(), AllocError>
+        ensures { Adds result writer.old writer.new
+            (json_tokens (line_json (line_value self.now))) }
+    {
+        match self {
+            Line::Octets(session, opening, outline, first, second) => {
+                write_connection(writer, alloc, session, *opening, outline, *first, *second)
+            }
+            Line::Refused(session, opening, refusal) => {
+                write_refused_connection(writer, alloc, session, *opening, *refusal)
+            }
+            Line::AllRefused(addresses, refusal) => {
+                write_refused_between(writer, alloc, *addresses, *refusal)
             }
         }
     }

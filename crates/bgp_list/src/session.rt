@@ -25,7 +25,7 @@ pub fn first_second(records: &[NamedRecord<'_>]) -> Seconds
 }
 
 /// That of the last one.
-fn last_second(records: &[NamedRecord<'_>]) -> Seconds
+pub(crate) fn last_second(records: &[NamedRecord<'_>]) -> Seconds
     ensures { result ≡ last_second (map located records.now) }
 {
     match records.last() {

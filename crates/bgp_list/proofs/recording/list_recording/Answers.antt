@@ -33,7 +33,7 @@ returns g c =
     c.new-talks.ensures.holds.right.is_port c.take_all.ensures.takes in
     let all = c.put_all-put.ensures.puts taken.packets taken.some in
     let puts = all.puts in
-    let wrote = and_nothing law (and_then law puts.wrote (and_then law c.put_file.ensures c.put_file-2.ensures)) c.hand_over-status.ensures.writes in
+    let wrote = and_nothing law (and_then law puts.wrote (and_then law c.put_file.ensures.wrote c.put_file-2.ensures.wrote)) c.hand_over-status.ensures.writes in
     let same = c.err-stopped.ensures.value in
     let last = c.number-packets.ensures ∙ taken.many ∙ ap (looked_at taken.packets) (sym same) in
     record {
@@ -62,6 +62,7 @@ returns g c =
       are_refusals = c.add_first-2.ensures.adds
           ∙ ap (λ (f : List (Option Refusal)). with_first f c.err-lacking.result) (c.add_first.ensures.adds
           ∙ ap (λ (f : List (Option Refusal)). with_first f c.err-stopped.result) (puts.added ∙ ap (λ (f : List (Option Refusal)). firsts_after f (refusals_in puts.put)) c.new-refusals.ensures));
+      in_form = (puts.in_form, c.put_file.ensures.in_form, c.put_file-2.ensures.in_form);
       written = is_written c.new-lines.result c.hand_over-status.new.lines c.args.sink.now _ fresh c.new-lines.ensures.now (search rules)
           _ _ _ wrote c.hand_over-status.ensures.none (coded_as _ _ _ _ c.code.ensures (told_as _ _ _ _ c.hand_over-status.ensures.told c.status_over.ensures));
     }
