@@ -103,7 +103,7 @@ module _ (words : List Text) (parts : ConfigParts) (file : Text) (line : IsJudge
   of_judging (Decode form extended f) is = two_names (codes "judge") (codes "decode") (λ e. omega (arith, e)) is.0
   of_judging (Capture form session recording f) is = two_names (codes "judge") (codes "decode") (λ e. omega (arith, e)) is.0
   of_judging (Import session recording f out) is = two_names (codes "judge") (codes "import") (λ e. omega (arith, e)) is.0
-  of_judging (Listing port f) is = two_names (codes "judge") (codes "list") (λ e. omega (arith, e)) is.0
+  of_judging (Listing port json f) is = two_names (codes "judge") (codes "list") (λ e. omega (arith, e)) is.0
   of_judging (Check checking f) is = two_names (codes "judge") (codes "check") (λ e. omega (arith, e)) is.0
   of_judging (Speak config speaking f) is = two_names (codes "judge") (codes "speak") (λ e. omega (arith, e)) is.0
   of_judging (Pair f) is = two_names (codes "judge") (codes "pair") (λ e. omega (arith, e)) is.0

@@ -10,6 +10,7 @@ use Rattle.clap.specs.Faults.{bundle_fault, check_fault, defaults_fault, flag_wo
 use Rattle.clap.specs.Walk.{Held, Step, Walk, after_step, finished, idle, long_or_other, nothing_held, settled, short_or_plain, trailing, value, walk_from, word_met}
 use Rattle.clap.specs.Simple.{Shape, built, names_of, new_shape}
 use Rattle.clap.proofs.OnLiterals.{clap_on_literals}
+use Rattle.bgp_json.specs.declared.output_form.OutputForm.TheVariants.{Text as AsText}
 use Rattle.bgp_lines.specs.declared.form.LineForm.TheVariants.{Plain}
 use Rattle.bgp_words.specs.Words.{program_words}
 use Rattle.bgp_words.specs.Decode.{IsStream, IsFileWord, IsDecode}
@@ -21,19 +22,19 @@ no_dash x xs other = search rules
 
 abbrev pub IsSpelled : List Text → Text → Type 0
 IsSpelled words file =
-    (fault_of program_words words ≡ []) × NamesDecode Plain false file (subcommand_of program_words words)
+    (fault_of program_words words ≡ []) × NamesDecode (AsText Plain) false file (subcommand_of program_words words)
 
 pub behind_dashes : (name file : Text) → IsSpelled (name ∷ codes "decode" ∷ codes "--" ∷ file ∷ []) file
 unfolding clap_on_literals
-behind_dashes name file = (refl, (refl, (refl, refl, refl, refl, refl, refl, (refl, refl))))
+behind_dashes name file = (refl, (refl, (refl, refl, refl, refl, refl, refl, (refl, refl, refl))))
 
 pub a_dash : (name : Text) → IsSpelled (name ∷ codes "decode" ∷ codes "-" ∷ []) (codes "-")
 unfolding clap_on_literals
-a_dash name = (refl, (refl, (refl, refl, refl, refl, refl, refl, (refl, refl))))
+a_dash name = (refl, (refl, (refl, refl, refl, refl, refl, refl, (refl, refl, refl))))
 
 pub no_word : (name : Text) → IsSpelled (name ∷ codes "decode" ∷ [] ∷ []) []
 unfolding clap_on_literals
-no_word name = (refl, (refl, (refl, refl, refl, refl, refl, refl, (refl, refl))))
+no_word name = (refl, (refl, (refl, refl, refl, refl, refl, refl, (refl, refl, refl))))
 
 -- what `decode` reads, once the program is built
 abbrev decode_shape : Shape
@@ -61,7 +62,7 @@ module _ (w : Text) where
       (check_fault decode_shape (finished decode_shape.rules (held_after m)) false))))
 
   abbrev stream_by : Held × Step → Type 0
-  stream_by m = IsStream Plain false w (finished decode_shape.rules (held_after m))
+  stream_by m = IsStream (AsText Plain) false w (finished decode_shape.rules (held_after m))
 
   -- the fault of the whole, by that of `decode`
   abbrev whole_by : Kinds → Kinds
@@ -92,7 +93,7 @@ module _ (w : Text) where
 
     stream_is : stream_by (nothing_held, value)
     unfolding clap_on_literals
-    stream_is = (refl, refl, refl, refl, refl, refl, (refl, refl))
+    stream_is = (refl, refl, refl, refl, refl, refl, (refl, refl, refl))
 
     whole_passes : (name : Text) → fault_of program_words (name ∷ codes "decode" ∷ w ∷ [])
         ≡ whole_by (level_fault decode_shape [] nothing_held (w ∷ []) false [])
@@ -104,7 +105,7 @@ module _ (w : Text) where
     none_above = refl
 
     named_so : (name : Text) → stream_by word_is
-        → NamesDecode Plain false w (subcommand_of program_words (name ∷ codes "decode" ∷ w ∷ []))
+        → NamesDecode (AsText Plain) false w (subcommand_of program_words (name ∷ codes "decode" ∷ w ∷ []))
     unfolding clap_on_literals
     named_so name is = (refl, is)
 

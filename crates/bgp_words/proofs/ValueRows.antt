@@ -9,7 +9,8 @@ use Rattle.clap.specs.declared.error.Error.{Error}
 use Rattle.clap.specs.declared.error.kind.ErrorKind.{ErrorKind}
 use Rattle.clap.specs.declared.error.kind.ErrorKind.TheVariants.{OutOfMemory}
 use Rattle.clap.proofs.OnLiterals.{clap_on_literals}
-use Rattle.bgp_lines.specs.declared.form.LineForm.{LineForm}
+use Rattle.bgp_json.specs.declared.output_form.OutputForm.{OutputForm}
+use Rattle.bgp_json.specs.declared.output_form.OutputForm.TheVariants.{Text as AsText, Json}
 use Rattle.bgp_lines.specs.declared.form.LineForm.TheVariants.{Plain, Names as InWords}
 use Rattle.bgp_words.specs.Decode.{IsForm}
 use Rattle.bgp_words.specs.Recording.{AreRecordingOptions}
@@ -55,7 +56,7 @@ no_import name row names lacks command named =
 no_list : (name : Text) (row : List Text) → subcommand_of program_words (name ∷ row) ≡ Some (codes "list", found name row)
     → LacksPort (found name row) → NamesNone name row
 no_list name row names lacks command named =
-    none_listed (found name row) (λ port file is. lacks port is.0) command (subst (λ used. Names used command) names named)
+    none_listed (found name row) (λ port json file is. lacks port is.0) command (subst (λ used. Names used command) names named)
 
 pub record IsValueRow (name : Text) (row : List Text) : Type 0 where
   pub passes : fault_of program_words (name ∷ row) ≡ []
@@ -130,18 +131,39 @@ abbrev as2_capture_words : List Text
 as2_capture_words = codes "decode" ∷ codes "--as2" ∷ codes "--mrt" ∷ codes "--peer" ∷ codes "192.0.2.2"
     ∷ codes "--local" ∷ codes "192.0.2.1" ∷ codes "a.mrt" ∷ []
 
+abbrev both_words : List Text
+both_words = codes "decode" ∷ codes "--names" ∷ codes "--json" ∷ codes "a.bgp" ∷ []
+
+abbrev both_capture_words : List Text
+both_capture_words = codes "decode" ∷ codes "--json" ∷ codes "--names" ∷ codes "--mrt" ∷ codes "--peer" ∷ codes "192.0.2.2"
+    ∷ codes "--local" ∷ codes "192.0.2.1" ∷ codes "a.mrt" ∷ []
+
 abbrev HasNoForm : List Row → Type 0
-HasNoForm rows = (form : LineForm) → IsForm form rows → ⊥
+HasNoForm rows = (form : OutputForm) → IsForm form rows → ⊥
 
 as2_alone : (name : Text) → HasNoForm (found name as2_words)
 unfolding clap_on_literals
-as2_alone name Plain is = let bad : true ≡ false = is.1 in absurd (cc)
-as2_alone name (InWords as2) is = let bad : false ≡ true = is.0 in absurd (cc)
+as2_alone name (AsText Plain) is = let bad : true ≡ false = is.2 in absurd (cc)
+as2_alone name (AsText (InWords as2)) is = let bad : false ≡ true = is.0 in absurd (cc)
+as2_alone name (Json as2) is = let bad : false ≡ true = is.1 in absurd (cc)
 
 as2_alone_of_capture : (name : Text) → HasNoForm (found name as2_capture_words)
 unfolding clap_on_literals
-as2_alone_of_capture name Plain is = let bad : true ≡ false = is.1 in absurd (cc)
-as2_alone_of_capture name (InWords as2) is = let bad : false ≡ true = is.0 in absurd (cc)
+as2_alone_of_capture name (AsText Plain) is = let bad : true ≡ false = is.2 in absurd (cc)
+as2_alone_of_capture name (AsText (InWords as2)) is = let bad : false ≡ true = is.0 in absurd (cc)
+as2_alone_of_capture name (Json as2) is = let bad : false ≡ true = is.1 in absurd (cc)
+
+both_forms : (name : Text) → HasNoForm (found name both_words)
+unfolding clap_on_literals
+both_forms name (AsText Plain) is = let bad : true ≡ false = is.0 in absurd (cc)
+both_forms name (AsText (InWords as2)) is = let bad : true ≡ false = is.1 in absurd (cc)
+both_forms name (Json as2) is = let bad : true ≡ false = is.0 in absurd (cc)
+
+both_forms_of_capture : (name : Text) → HasNoForm (found name both_capture_words)
+unfolding clap_on_literals
+both_forms_of_capture name (AsText Plain) is = let bad : true ≡ false = is.0 in absurd (cc)
+both_forms_of_capture name (AsText (InWords as2)) is = let bad : true ≡ false = is.1 in absurd (cc)
+both_forms_of_capture name (Json as2) is = let bad : true ≡ false = is.0 in absurd (cc)
 
 no_decode : (name : Text) (row : List Text) → subcommand_of program_words (name ∷ row) ≡ Some (codes "decode", found name row)
     → HasNoForm (found name row) → NamesNone name row
@@ -176,7 +198,7 @@ rows_of_recordings : (name : Text) → AreRows name (
     import_with (codes "--port") (codes "65536") ∷ import_with (codes "--local-port") (codes "0")
     ∷ import_with (codes "--connection") (codes "0") ∷ import_with (codes "--within") (codes "65536")
     ∷ (codes "list" ∷ codes "--port" ∷ codes "0" ∷ codes "a.pcap" ∷ []) ∷ as2_words
-    ∷ as2_capture_words ∷ [])
+    ∷ as2_capture_words ∷ both_words ∷ both_capture_words ∷ [])
 unfolding clap_on_literals
 rows_of_recordings name = (
   import_row name (codes "--port") (codes "65536") refl refl (high_port name),
@@ -193,7 +215,13 @@ rows_of_recordings name = (
           },
           (
             record { passes = refl; nothing = no_decode name as2_words refl (as2_alone name) },
-            (record { passes = refl; nothing = no_decode name as2_capture_words refl (as2_alone_of_capture name) }, tt),
+            (
+              record { passes = refl; nothing = no_decode name as2_capture_words refl (as2_alone_of_capture name) },
+              (
+                record { passes = refl; nothing = no_decode name both_words refl (both_forms name) },
+                (record { passes = refl; nothing = no_decode name both_capture_words refl (both_forms_of_capture name) }, tt),
+              ),
+            ),
           ),
         ),
       ),

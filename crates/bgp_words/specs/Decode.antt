@@ -1,11 +1,12 @@
--- The values of `decode`: the form of its lines, a file, and for a capture or a recording the
+-- The values of `decode`: the form of what it prints, a file, and for a capture or a recording the
 -- session.
 use Rattle.std.specs.Prelude.{◌≡◌, ◌⊎◌, Bool, true, false, List, [], ◌∷◌, Some, None}
 use Rattle.std.specs.Prelude.{codes}
 use Rattle.clap.specs.Words.{Row, Text, first_of}
 use Rattle.bgp_prefix.specs.Notation.{IsAddressText}
 use Rattle.bgp_prefix.specs.declared.session.Session.{Session}
-use Rattle.bgp_lines.specs.declared.form.LineForm.{LineForm}
+use Rattle.bgp_json.specs.declared.output_form.OutputForm.{OutputForm}
+use Rattle.bgp_json.specs.declared.output_form.OutputForm.TheVariants.{Text as AsText, Json}
 use Rattle.bgp_lines.specs.declared.form.LineForm.TheVariants.{Plain, Names}
 use Rattle.bgp_words.specs.Values.{IsNoFlag, IsValue, is_given}
 use Rattle.bgp_words.specs.Recording.{AreRecordingOptions, refresh_told}
@@ -15,28 +16,33 @@ use Rattle.bgp_words.specs.declared.words.Command.TheVariants.{Decode, Capture, 
 use Rattle.bgp_words.specs.declared.words.Command.TheVariants.{Check, Import, List as Listing}
 use Rattle.bgp_words.specs.declared.words.Command.TheVariants.{Speak, Pair}
 
--- The form of the lines: in words with `--names`, and with `--as2` besides their AS paths and
--- aggregators have AS numbers of two octets. `--as2` isn't given alone.
-abbrev pub IsForm : LineForm → List Row → Type 0
-IsForm Plain rows =
-    (is_given (codes "names") rows ≡ false) × (is_given (codes "as2") rows ≡ false)
-IsForm (Names as2) rows =
-    (is_given (codes "names") rows ≡ true) × (as2 ≡ is_given (codes "as2") rows)
+-- The form of what is printed: lines in words with `--names`, and JSON with `--json`, which aren't
+-- both given. With `--as2` besides, AS paths and aggregators have AS numbers of two octets: it isn't
+-- given without one of both.
+abbrev pub IsForm : OutputForm → List Row → Type 0
+IsForm (AsText Plain) rows =
+    (is_given (codes "names") rows ≡ false) × (is_given (codes "json") rows ≡ false)
+    × (is_given (codes "as2") rows ≡ false)
+IsForm (AsText (Names as2)) rows =
+    (is_given (codes "names") rows ≡ true) × (is_given (codes "json") rows ≡ false)
+    × (as2 ≡ is_given (codes "as2") rows)
+IsForm (Json as2) rows =
+    (is_given (codes "names") rows ≡ false) × (is_given (codes "json") rows ≡ true)
+    × (as2 ≡ is_given (codes "as2") rows)
 
--- the values of `decode FILE`, with `--names`, `--names --as2` or neither, and with `--extended` or
--- without: no other word of a capture is given
-abbrev pub IsStream : LineForm → Bool → Text → List Row → Type 0
+-- the values of `decode FILE` in such a form, with `--extended` or without: no other word of a
+-- capture is given
+abbrev pub IsStream : OutputForm → Bool → Text → List Row → Type 0
 IsStream form extended file rows =
     (first_of (codes "FILE") rows ≡ Some file) × (is_given (codes "mrt") rows ≡ false)
     × (first_of (codes "peer") rows ≡ None) × (first_of (codes "local") rows ≡ None)
     × (is_given (codes "skip-refresh") rows ≡ false)
     × (extended ≡ is_given (codes "extended") rows) × IsForm form rows
 
--- The values of `decode --mrt --peer A --local A FILE`, with `--names`, `--names --as2` or neither,
--- of a session without route refresh, whose messages are passed over with `--skip-refresh`;
--- `--extended`: the local system offers extended messages. What is told of a recording is there
--- whatever FILE is.
-abbrev pub IsCapture : LineForm → Session → RecordingOptions → Text → List Row → Type 0
+-- The values of `decode --mrt --peer A --local A FILE` in such a form, of a session without route
+-- refresh, whose messages are passed over with `--skip-refresh`; `--extended`: the local system
+-- offers extended messages. What is told of a recording is there whatever FILE is.
+abbrev pub IsCapture : OutputForm → Session → RecordingOptions → Text → List Row → Type 0
 IsCapture form session recording file rows =
     (first_of (codes "FILE") rows ≡ Some file) × (is_given (codes "mrt") rows ≡ true)
     × IsValue IsAddressText (codes "peer") rows session.peer
@@ -58,11 +64,11 @@ IsDecode words file = (name : Text)
 -- the command is `decode` of this file, with lines in numbers and the limit of 4096 octets
 abbrev pub IsDecodeOf : Text → Command → Type 0
 IsDecodeOf text (Decode form extended file) =
-    (form ≡ Plain) × (extended ≡ false) × (file.now ≡ text)
+    (form ≡ AsText Plain) × (extended ≡ false) × (file.now ≡ text)
 IsDecodeOf text (Capture form session recording file) = ⊥
 IsDecodeOf text (Judge config recording explain file) = ⊥
 IsDecodeOf text (Import session recording file out) = ⊥
-IsDecodeOf text (Listing port file) = ⊥
+IsDecodeOf text (Listing port json file) = ⊥
 IsDecodeOf text (Check checking file) = ⊥
 IsDecodeOf text (Speak config speaking file) = ⊥
 IsDecodeOf text (Pair file) = ⊥

@@ -27,10 +27,11 @@ IsImport session recording file out rows =
     × AreRecordingOptions recording rows × AreApart session recording.local_port
     × (first_of (codes "FILE") rows ≡ Some file) × (first_of (codes "OUT") rows ≡ Some out)
 
--- the values of `list`: the port of the connections, and a file
-abbrev pub IsListing : ℕ → Text → List Row → Type 0
-IsListing port file rows =
-    IsValue IsPortText (codes "port") rows port × (first_of (codes "FILE") rows ≡ Some file)
+-- the values of `list`: the port of the connections, whether JSON is wanted, and a file
+abbrev pub IsListing : ℕ → Bool → Text → List Row → Type 0
+IsListing port json file rows =
+    IsValue IsPortText (codes "port") rows port × (json ≡ is_given (codes "json") rows)
+    × (first_of (codes "FILE") rows ≡ Some file)
 
 -- the values of `check`: the port of the connections, the patience, whether routes and settings are
 -- wanted, whether what is well is left out, and a file
@@ -50,7 +51,7 @@ CanImport (Capture form session recording file) = Unit {0}
 CanImport (Judge config recording explain file) = Unit {0}
 CanImport (Import session recording file out) =
     IsOfOneFamily session × AreApart session recording.local_port
-CanImport (Listing port file) = Unit {0}
+CanImport (Listing port json file) = Unit {0}
 CanImport (Check checking file) = Unit {0}
 CanImport (Speak config speaking file) = Unit {0}
 CanImport (Pair file) = Unit {0}

@@ -57,7 +57,7 @@ IsJudgeOf words (Judge config recording explain file) =
     IsJudgeLine words config.parts file.now × (recording ≡ usual_recording)
     × (explain ≡ false)
 IsJudgeOf words (Import session recording file out) = ⊥
-IsJudgeOf words (Listing port file) = ⊥
+IsJudgeOf words (Listing port json file) = ⊥
 IsJudgeOf words (Check checking file) = ⊥
 IsJudgeOf words (Speak config speaking file) = ⊥
 IsJudgeOf words (Pair file) = ⊥

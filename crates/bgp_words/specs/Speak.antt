@@ -46,7 +46,7 @@ CanSpeak (Decode form extended file) = Unit {0}
 CanSpeak (Capture form session recording file) = Unit {0}
 CanSpeak (Judge config recording explain file) = Unit {0}
 CanSpeak (Import session recording file out) = Unit {0}
-CanSpeak (Listing port file) = Unit {0}
+CanSpeak (Listing port json file) = Unit {0}
 CanSpeak (Check checking file) = Unit {0}
 CanSpeak (Speak config speaking file) =
     IsOfOneFamily config.parts.session × (speaking.turns < 2 ^ 63)

@@ -10,7 +10,7 @@ use Rattle.clap.specs.declared.error.kind.ErrorKind.TheVariants.{DisplayHelp, Di
 use Rattle.clap.specs.declared.error.kind.ErrorKind.TheVariants.{MissingRequiredArgument}
 use Rattle.clap.specs.declared.error.kind.ErrorKind.TheVariants.{MissingSubcommand, OutOfMemory}
 use Rattle.clap.specs.declared.error.kind.ErrorKind.TheVariants.{ValueValidation}
-use Rattle.bgp_lines.specs.declared.form.LineForm.{LineForm}
+use Rattle.bgp_json.specs.declared.output_form.OutputForm.{OutputForm}
 use Rattle.bgp_open.specs.declared.config.Config.{Config}
 use Rattle.bgp_words.specs.Decode.{IsStream, IsCapture, IsDecodeOf}
 use Rattle.bgp_words.specs.Judge.{IsJudge, IsJudgeOf}
@@ -35,7 +35,7 @@ name_of (Decode form extended file) = codes "decode"
 name_of (Capture form session recording file) = codes "decode"
 name_of (Judge config recording explain file) = codes "judge"
 name_of (Import session recording file out) = codes "import"
-name_of (Listing port file) = codes "list"
+name_of (Listing port json file) = codes "list"
 name_of (Check checking file) = codes "check"
 name_of (Speak config speaking file) = codes "speak"
 name_of (Pair file) = codes "pair"
@@ -46,7 +46,7 @@ AreValuesOf (Decode form extended file) = IsStream form extended file.now
 AreValuesOf (Capture form session recording file) = IsCapture form session recording file.now
 AreValuesOf (Judge config recording explain file) = IsJudge config recording explain file.now
 AreValuesOf (Import session recording file out) = IsImport session recording file.now out.now
-AreValuesOf (Listing port file) = IsListing port file.now
+AreValuesOf (Listing port json file) = IsListing port json file.now
 AreValuesOf (Check checking file) =
     IsChecking checking file.now
 AreValuesOf (Speak config speaking file) = IsSpeak config speaking file.now
@@ -60,9 +60,9 @@ Names used command = IsUsed (name_of command) (AreValuesOf command) used
 abbrev pub NamesBy : Text → List Row → Command → Type 0
 NamesBy name rows = Names (Some (name, rows))
 
--- `decode` was named, of a stream, with lines in this form, with extended messages or without, and
--- with this file
-abbrev pub NamesDecode : LineForm → Bool → Text → Option (Text × List Row) → Type 0
+-- `decode` was named, of a stream, in this form, with extended messages or without, and with this
+-- file
+abbrev pub NamesDecode : OutputForm → Bool → Text → Option (Text × List Row) → Type 0
 NamesDecode form extended file = IsUsed (codes "decode") (IsStream form extended file)
 
 -- `judge` was named, with this configuration, what is told of a recording, the wish for the reason
@@ -170,7 +170,7 @@ fault_rows =
 -- Words after the program's name in which no word is at fault, and a value or what is given beside
 -- it is: neither way to come to a connection, both, ports 0 and 65536, and 2 to the 63rd turns; of
 -- recordings ports 0 and 65536, connection 0, and 65536 seconds; AS numbers of two octets in lines
--- that aren't in words, of a stream and of a capture.
+-- that aren't in words, and both words and JSON, of a stream and of a capture.
 abbrev pub value_rows : List (List Text)
 value_rows =
     speak_with (next_hop4 ++ next_hop6)
@@ -187,7 +187,10 @@ value_rows =
     ∷ (codes "list" ∷ codes "--port" ∷ codes "0" ∷ codes "a.pcap" ∷ [])
     ∷ (codes "decode" ∷ codes "--as2" ∷ codes "a.bgp" ∷ [])
     ∷ (codes "decode" ∷ codes "--as2" ∷ codes "--mrt" ∷ codes "--peer" ∷ codes "192.0.2.2"
-    ∷ codes "--local" ∷ codes "192.0.2.1" ∷ codes "a.mrt" ∷ []) ∷ []
+    ∷ codes "--local" ∷ codes "192.0.2.1" ∷ codes "a.mrt" ∷ [])
+    ∷ (codes "decode" ∷ codes "--names" ∷ codes "--json" ∷ codes "a.bgp" ∷ [])
+    ∷ (codes "decode" ∷ codes "--json" ∷ codes "--names" ∷ codes "--mrt" ∷ codes "--peer"
+    ∷ codes "192.0.2.2" ∷ codes "--local" ∷ codes "192.0.2.1" ∷ codes "a.mrt" ∷ []) ∷ []
 
 -- an error of this kind, or memory was refused
 abbrev pub IsFault : ErrorKind → Result Command Error → Type 0

@@ -44,12 +44,12 @@ with_recording command =
     (flag_word (codes "skip-refresh"))
 
 -- `decode FILE`, `decode --mrt --peer A --local A FILE`, each with `--extended` or without, with
--- `--names` and `--as2` or without, and with the options of a session that is read
+-- `--names`, `--json` and `--as2` or without, and with the options of a session that is read
 abbrev pub decode_words : App
 decode_words =
-    with_recording (with_rule (with_rule (with_rule (with_rule (with_rule (with_rule
+    with_recording (with_rule (with_rule (with_rule (with_rule (with_rule (with_rule (with_rule
     (with_file (codes "decode"))
-    (flag_word (codes "names"))) (flag_word (codes "as2")))
+    (flag_word (codes "names"))) (flag_word (codes "json"))) (flag_word (codes "as2")))
     (flag_word (codes "mrt"))) (option_word (codes "peer"))) (option_word (codes "local")))
     (flag_word (codes "extended")))
 
@@ -88,9 +88,9 @@ import_words =
     (file_word (codes "OUT"))) (required_word (codes "local"))) (required_word (codes "peer")))
     (flag_word (codes "extended")))
 
--- `list FILE`, with the port or without
+-- `list FILE`, with the port and the wish for JSON or without
 abbrev pub list_words : App
-list_words = with_rule (with_file (codes "list")) port_word
+list_words = with_rule (with_rule (with_file (codes "list")) port_word) (flag_word (codes "json"))
 
 -- `check FILE`, with the port, the patience, and the wishes for routes and settings and that what is
 -- well be left out (by its letter `q`, too), or without

@@ -5,7 +5,7 @@ ghost use Rattle.std.specs.Prelude.{true, false};
 ghost use Rattle.clap.specs.Words.{app_of, found_of, rows_of};
 ghost use Rattle.clap.specs.declared.builder.command.Command.TheViews.{out-Command as fields_of};
 ghost use Rattle.bgp_words.specs.Words.{decode_words};
-ghost use Rattle.bgp_lines.specs.declared.form.LineForm.{LineForm as Form};
+ghost use Rattle.bgp_json.specs.declared.output_form.OutputForm.{OutputForm as Form};
 ghost use Rattle.bgp_words.specs.Decode.{IsForm, IsStream, IsCapture};
 ghost use Rattle.bgp_words.specs.Spelled.{NamesBy};
 ghost use Rattle.bgp_words.specs.Values.{is_given};
@@ -16,6 +16,7 @@ use crate::options::{READ, Word, with_words};
 use crate::recording::{recording_of, refresh_of, with_recording};
 use crate::values::{address_of, has_flag, has_value, value_of};
 use crate::words::Command;
+use bgp_json::OutputForm;
 use bgp_lines::LineForm;
 use bgp_prefix::Session;
 use clap::ArgMatches;
@@ -58,7 +59,14 @@ decode --names prints the same in words, with bars between the parts of a line:
   rest 3: ffffff        the octets of the unfinished message
 What doesn't have its form is in hexadecimal after the word octets, what has no name after its
 number. AS numbers have four octets unless an OPEN before them lacks capability 65. A stream has one
-direction: if the other side's OPEN lacks it, give --as2. So too where a capture lacks that OPEN.
+direction: if the other side's OPEN lacks it, give --as2, with --json too. So too where a capture
+lacks that OPEN.
+decode --json prints each line as a JSON object, whose type says which line it is:
+  {\"type\":\"keepalive\",\"at\":89}
+                        at: the octet of the stream where the message begins
+  {\"type\":\"keepalive\",\"record\":4,\"second\":1500000000,\"direction\":\"received\"}
+                        with --mrt: the number of the record in the session, from 1
+The object of a message has octets, in hexadecimal, if its other members leave some open.
 decode --mrt prints one line a record of the session:
   @1500000000 received keepalive
   @1500000000 sent notification 6/2 -
@@ -86,12 +94,13 @@ passed over. A dash stands for nothing.
 The manual is docs/bgp.1.md, at the top of the repository.";
 
 /// The words after `decode`.
-static WORDS: [Word<'static>; 7] = [
+static WORDS: [Word<'static>; 8] = [
     READ,
     Word::Flag("names", "Prints the messages in words"),
+    Word::Flag("json", "Prints each line as a JSON object"),
     Word::Flag(
         "as2",
-        "AS numbers in AS_PATH and AGGREGATOR have two octets, with --names",
+        "AS numbers in AS_PATH and AGGREGATOR have two octets, with --names or --json",
     ),
     Word::Flag(
         "mrt",
@@ -186,17 +195,24 @@ fn stream_of<'a>(decode: &ArgMatches<'a>) -> Result<Command<'a>, Misfit<'a>>
     })
 }
 
-/// The form of the lines. How many octets an AS number has is asked for lines in words alone.
-fn form_of<'a>(decode: &ArgMatches<'a>) -> Result<LineForm, Misfit<'a>>
+/// The form of what is printed. Only words and JSON depend on how many octets an AS number has.
+fn form_of<'a>(decode: &ArgMatches<'a>) -> Result<OutputForm, Misfit<'a>>
     ensures { (form : Form) → IsOkAnd result (λ it. it ≡ form)
         ↔ IsForm form (rows_of (found_of decode.now)) }
 {
     let as2 = has_flag(decode, "as2");
-    if has_flag(decode, "names") {
-        return Ok(LineForm::Names { as2 });
+    let names = has_flag(decode, "names");
+    if has_flag(decode, "json") {
+        if names {
+            return Err(Misfit::TwoForms);
+        }
+        return Ok(OutputForm::Json { as2 });
+    }
+    if names {
+        return Ok(OutputForm::Text(LineForm::Names { as2 }));
     }
     if as2 {
-        return Err(Misfit::As2WithoutNames);
+        return Err(Misfit::As2Alone);
     }
-    Ok(LineForm::Plain)
+    Ok(OutputForm::Text(LineForm::Plain))
 }

@@ -1,6 +1,6 @@
 //! The words of `list`.
 
-ghost use Rattle.std.specs.Prelude.{◌≡◌, ℕ, List, IfOk, IsErr, false, codes};
+ghost use Rattle.std.specs.Prelude.{◌≡◌, ℕ, Bool, List, IfOk, IsErr, false, codes};
 ghost use Rattle.clap.specs.Words.{app_of, found_of, rows_of};
 ghost use Rattle.clap.specs.declared.builder.command.Command.TheViews.{out-Command as fields_of};
 ghost use Rattle.bgp_words.specs.Words.{list_words};
@@ -8,9 +8,9 @@ ghost use Rattle.bgp_words.specs.Import.{IsListing};
 ghost use Rattle.bgp_words.specs.Spelled.{NamesBy};
 
 use crate::misfit::Misfit;
-use crate::options::{READ, with_word};
+use crate::options::{READ, Word, with_words};
 use crate::recording::PORT;
-use crate::values::{port_of, value_of};
+use crate::values::{has_flag, port_of, value_of};
 use crate::words::Command;
 use clap::ArgMatches;
 use std::alloc::{AllocError, Global};
@@ -45,6 +45,8 @@ A line of a capture, in the order of first records:
 and last, if the file can't be read on:
   refused at octet 36: 1 Truncated, the file ends inside a record
                         the offset of the record, the reason's number and name, and the cause
+list --json prints the same as JSON objects, one a line: of a connection with its end, of a session,
+or of what is refused.
 
 Exit status:
   0   the file was read to its end; or help was asked for
@@ -55,6 +57,13 @@ Exit status:
 
 The manual is docs/bgp.1.md, at the top of the repository.";
 
+/// The words after `list`.
+static WORDS: [Word<'static>; 3] = [
+    READ,
+    PORT,
+    Word::Flag("json", "Prints each line as a JSON object"),
+];
+
 /// What the words of `list` may be.
 pub(crate) fn list_words<'a>(alloc: Global) -> Result<clap::Command<'a>, AllocError>
     ensures words { IfOk result (λ list. app_of list ≡ list_words) }
@@ -63,17 +72,20 @@ pub(crate) fn list_words<'a>(alloc: Global) -> Result<clap::Command<'a>, AllocEr
     let list = clap::Command::new(alloc, "list")
         .about("Lists the connections in a recording, or the sessions in a capture")
         .after_help(LISTED);
-    let list = with_word(alloc, list, READ)?;
-    with_word(alloc, list, PORT)
+    with_words(alloc, list, &WORDS)
 }
 
 /// The command that the values of `list` are.
 pub(crate) fn list_of<'a>(list: &ArgMatches<'a>) -> Result<Command<'a>, Misfit<'a>>
     ensures ok { IfOk result (NamesBy (codes "list") (rows_of (found_of list.now))) }
-    ensures err { IsErr result → (port : ℕ) (file : List ℕ) →
-        IsListing port file (rows_of (found_of list.now)) → ⊥ }
+    ensures err { IsErr result → (port : ℕ) (json : Bool) (file : List ℕ) →
+        IsListing port json file (rows_of (found_of list.now)) → ⊥ }
 {
     let port = port_of(list, "port")?;
     let file = value_of(list, "FILE")?;
-    Ok(Command::List { port, file })
+    Ok(Command::List {
+        port,
+        json: has_flag(list, "json"),
+        file,
+    })
 }

@@ -118,8 +118,10 @@ pub(crate) enum Misfit<'a> {
     },
     /// The messages to pass over are a stream's, and not a session's.
     SkipsInStream,
-    /// AS numbers are to have two octets, and the lines aren't to be in words.
-    As2WithoutNames,
+    /// AS numbers are to have two octets, and what is printed shows none.
+    As2Alone,
+    /// Both words and JSON are to be printed.
+    TwoForms,
     /// The value of an option isn't what it wants.
     Value {
         /// The option's name.
@@ -178,8 +180,11 @@ impl Display for Misfit<'_> {
             Misfit::SkipsInStream => f.write_str(
                 "--skip-refresh wants --mrt, --peer and --local: of a raw stream all is printed",
             ),
-            Misfit::As2WithoutNames => f.write_str(
-                "--as2 wants --names: without it no AS path is read",
+            Misfit::As2Alone => f.write_str(
+                "--as2 wants --names or --json: without them no AS path is read",
+            ),
+            Misfit::TwoForms => f.write_str(
+                "--names and --json are both given: decode prints one of both",
             ),
             Misfit::Value { name, word, wanted } => {
                 write!(f, "--{name} wants {wanted}, and {word:?} is none")

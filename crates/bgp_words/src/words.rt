@@ -4,7 +4,7 @@ ghost use Rattle.std.specs.Prelude.{◌≡◌, ◌≢◌, ◌∷◌, ℕ, Bool, 
 ghost use Rattle.std.specs.Prelude.{true};
 ghost use Rattle.clap.specs.Words.{app_of, kind_of, subcommand_rows_of, IsAmong};
 ghost use Rattle.clap.specs.Words.{FailsBy, HasMatchesOf, fault_of, is_simple_and_free};
-ghost use Rattle.bgp_lines.specs.declared.form.LineForm.{LineForm as Form};
+ghost use Rattle.bgp_json.specs.declared.output_form.OutputForm.{OutputForm as Form};
 ghost use Rattle.bgp_open.specs.declared.config.Config.{Config as Configured};
 ghost use Rattle.bgp_words.specs.Words.{program_words, with_readers, with_speakers};
 ghost use Rattle.bgp_words.specs.Decode.{IsDecode};
@@ -26,7 +26,7 @@ use crate::pair::{pair_of, pair_words};
 use crate::speak::{speak_of, speak_words};
 use crate::usage::plain;
 use bgp_import::RecordingOptions;
-use bgp_lines::LineForm;
+use bgp_json::OutputForm;
 use bgp_open::Config;
 use bgp_prefix::Session;
 use bgp_talk::Speaking;
@@ -40,8 +40,8 @@ use std::convert::AsStr;
 pub enum Command<'a> {
     /// Print a raw stream, one line a message.
     Decode {
-        /// How the lines are written.
-        form: LineForm,
+        /// How the messages are printed.
+        form: OutputForm,
         /// Whether UPDATE and NOTIFICATION messages may be extended ones (RFC 8654).
         extended: bool,
         /// The file's path, or `-` for standard input.
@@ -50,8 +50,8 @@ pub enum Command<'a> {
     /// Print the records of one session, one a line: those in a capture, or those that are made of
     /// one connection in a recording.
     Capture {
-        /// How the lines are written.
-        form: LineForm,
+        /// How the messages are printed.
+        form: OutputForm,
         /// The session's ends, and whether the local system offers extended messages; it has no
         /// route refresh, or its messages are passed over.
         session: Session,
@@ -87,6 +87,8 @@ pub enum Command<'a> {
     List {
         /// The port of the connections, which isn't 0.
         port: u16,
+        /// Whether each line is a JSON object.
+        json: bool,
         /// The file's path, or `-` for standard input.
         file: &'a str,
     },

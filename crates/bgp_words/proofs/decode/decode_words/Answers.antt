@@ -7,10 +7,10 @@ use Rattle.bgp_words.proofs.decode.decode_words.Goals as goal
 
 abbrev words : App → App
 words decode =
-    with_rule (with_rule (with_rule (with_rule (with_rule (with_rule (with_rule decode
-    (file_word (codes "FILE"))) (flag_word (codes "names"))) (flag_word (codes "as2")))
-    (flag_word (codes "mrt"))) (option_word (codes "peer"))) (option_word (codes "local")))
-    (flag_word (codes "extended"))
+    with_rule (with_rule (with_rule (with_rule (with_rule (with_rule (with_rule (with_rule decode
+    (file_word (codes "FILE"))) (flag_word (codes "names"))) (flag_word (codes "json")))
+    (flag_word (codes "as2"))) (flag_word (codes "mrt"))) (option_word (codes "peer")))
+    (option_word (codes "local"))) (flag_word (codes "extended"))
 
 pub returns-clause-words : goal.returns-clause-words
 returns-clause-words c =

@@ -2,6 +2,7 @@ use Rattle.std.proofs.Common.{◌≡◌, ◌∙◌, [], ◌∷◌, Ok, Err, map,
 use Rattle.clap.specs.Words.{App, Kinds, IsAmong, HasKind, fault_of, is_simple, is_simple_and_free, kind_of, subcommand_of, subcommand_rows_of}
 use Rattle.clap.specs.Kinds.{or_else}
 use Rattle.clap.specs.declared.error.kind.ErrorKind.TheVariants.{ValueValidation}
+use Rattle.bgp_json.specs.declared.output_form.OutputForm.TheVariants.{Text as AsText}
 use Rattle.bgp_lines.specs.declared.form.LineForm.TheVariants.{Plain}
 use Rattle.bgp_words.specs.Words.{program_words}
 use Rattle.bgp_words.specs.Recording.{usual_recording}
@@ -63,7 +64,7 @@ returns-clause-decode g c file is =
     let words = map g.S.AsStr.text c.args.words.now in
     let app = c.in_ok-program.ensures in
     let subs = (c.in_ok-matches.ensures.matches (ap is_simple app)).1 ∙ ap (λ (a : App). subcommand_of a words) app in
-    absurd (c.in-Err.ensures.no_stream refl Plain false file (subst (NamesDecode Plain false file) (sym subs) (spelled_decode words file is).1))
+    absurd (c.in-Err.ensures.no_stream refl (AsText Plain) false file (subst (NamesDecode (AsText Plain) false file) (sym subs) (spelled_decode words file is).1))
 
 pub returns-clause-none : goal.returns-clause-none
 returns-clause-none g c other command spelled =
