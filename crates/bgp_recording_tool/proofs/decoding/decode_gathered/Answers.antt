@@ -1,7 +1,7 @@
 use Rattle.std.proofs.Common.{◌∙◌, List, subst, sym, length, reverse, inl, inr}
 use Rattle.std.specs.List.{AllByRecursion}
 use Rattle.bgp_recording.specs.declared.entry.Entry.{Entry}
-use Rattle.bgp_recording_tool.specs.Decoding.{AreEntryLines, HasLine}
+use Rattle.bgp_recording_tool.specs.Decoding.{AreLinesWith, HasLine}
 use Rattle.bgp_recording_tool.specs.Remarks.{notes_of}
 use Rattle.bgp_recording_tool.proofs.EntryLines.{have_lines}
 use Rattle.bgp_recording_tool.proofs.Judgings.{is_made}
@@ -39,15 +39,16 @@ write_entries-requires-clause-lines g c =
 pub returns : goal.returns
 returns g c = λ packets segments taken holds.
     let tells = rw c.in-Ok.is at (c.records_of.ensures.told packets segments taken holds) in
-    let (text, are_lines, written) = c.write_entries.ensures in (
+    let (text, (code, are_lines, written)) = c.write_entries.ensures in (
       inl (record {
         connection = tells.connection;
         entries = c.in-Ok.made.entries.items;
         notes = notes_of c.in-Ok.made;
         text = text;
+        code = code;
         chosen = tells.answered;
         made = is_made c.args.import.now c.args.import.now.connection packets segments c.in-Ok.made tells;
-        are_lines = subst (λ (es : List Entry). AreEntryLines c.args.form c.args.import.now.selection.session es text) c.as_slice-entries.ensures.value are_lines;
+        are_lines = subst (λ (es : List Entry). AreLinesWith c.args.form c.args.import.now.selection.session es text code) c.as_slice-entries.ensures.value are_lines;
         written = written;
         remarked = c.in-Ok-made_remarks.ensures;
       }),

@@ -9,12 +9,15 @@ pub returns : goal.returns
 returns g c =
     let law : Joins g.W.Sink = record { joined = g.met.W.Sink.joined } in
     let fresh : IsFresh c.new-lines.result = record { empty = c.new-lines.ensures.empty; calm = c.new-lines.ensures.fresh } in
-    let (text, are_lines, put) = c.put_entries.ensures in
+    let (text, are_lines, put) = c.put_entries-put.ensures in
     let wrote = and_nothing law put c.hand_over-status.ensures.writes in
     let same = wrote.same_sink ∙ c.new-lines.ensures.same in (
       text,
-      are_lines,
-      rw c.code.ensures
-          (is_written c.new-lines.result c.hand_over-status.new.lines c.args.sink.now _ fresh c.new-lines.ensures.now (search rules)
-          _ _ _ wrote c.hand_over-status.ensures.none (told_as _ _ _ _ c.hand_over-status.ensures.told refl)),
+      (
+        _,
+        are_lines,
+        rw c.code.ensures
+            (is_written c.new-lines.result c.hand_over-status.new.lines c.args.sink.now _ fresh c.new-lines.ensures.now (search rules)
+            _ _ _ wrote c.hand_over-status.ensures.none (told_as _ _ _ _ c.hand_over-status.ensures.told refl)),
+      ),
     )
