@@ -26,7 +26,7 @@ use Rattle.bgp_tool.specs.declared.note.CaptureCommand.TheVariants as commands
 use Rattle.bgp_tool.specs.declared.note.Note.{Note}
 use Rattle.bgp_tool.specs.declared.session_options.SessionOptions.{SessionOptions}
 use Rattle.bgp_tool.specs.declared.stream_options.StreamOptions.{StreamOptions}
-use Rattle.bgp_lines.specs.declared.form.LineForm.{LineForm}
+use Rattle.bgp_json.specs.declared.output_form.OutputForm.{OutputForm}
 use Rattle.bgp_tool.specs.declared.opened.Outcome.{Outcome}
 use Rattle.bgp_explain.specs.declared.report.Report.{Report}
 use Rattle.bgp_explain.specs.declared.report.Report.TheVariants.{VerdictAlone, WithReason}
@@ -41,6 +41,8 @@ use Rattle.bgp_import.specs.declared.refusal.Cause.TheVariants as causes
 use Rattle.bgp_list.specs.Capture.{ListsCapture}
 use Rattle.bgp_list.specs.Recording.{ListsRecording}
 use Rattle.bgp_list.specs.declared.capture.ListedCapture.{ListedCapture}
+use Rattle.bgp_list.specs.declared.form.ListForm.{ListForm}
+use Rattle.bgp_list.specs.declared.form.ListForm.TheVariants.{Json, Text}
 use Rattle.bgp_list.specs.declared.listed.ListedRecording.{ListedRecording}
 use Rattle.bgp_check_text.specs.declared.settings.Settings.{Settings}
 use Rattle.bgp_check_text.specs.declared.settings.Settings.TheVariants.{Always, Never}
@@ -67,11 +69,11 @@ use Rattle.bgp_commands.specs.declared.ends.Ends.{Ends}
 -- ---- commands
 
 -- how a stream is read and told
-abbrev pub stream_options : LineForm → Bool → StreamOptions
+abbrev pub stream_options : OutputForm → Bool → StreamOptions
 stream_options form extended = record { limit = limit_with extended; form = form }
 
 -- which session's records are told, and how
-abbrev pub session_options : LineForm → Session → SessionOptions
+abbrev pub session_options : OutputForm → Session → SessionOptions
 session_options form session = record { session = session; form = form }
 
 -- the file that a command reads, or else the one that it writes
@@ -80,7 +82,7 @@ file_of (words.Decode form extended file) = file
 file_of (words.Capture form session recording file) = file
 file_of (words.Judge config recording explain file) = file
 file_of (words.Import session recording file out) = file
-file_of (words.List port file) = file
+file_of (words.List port json file) = file
 file_of (words.Check checking file) = file
 file_of (words.Speak config speaking file) = file
 file_of (words.Pair file) = file
@@ -91,7 +93,7 @@ reads_file (words.Decode form extended file) = true
 reads_file (words.Capture form session recording file) = true
 reads_file (words.Judge config recording explain file) = true
 reads_file (words.Import session recording file out) = true
-reads_file (words.List port file) = true
+reads_file (words.List port json file) = true
 reads_file (words.Check checking file) = true
 reads_file (words.Speak config speaking file) = false
 reads_file (words.Pair file) = false
@@ -103,12 +105,15 @@ IsOneName (words.Capture form session recording file) = ⊥
 IsOneName (words.Judge config recording explain file) = ⊥
 IsOneName (words.Import session recording file out) =
     (file.now ≡ out.now) × (file.now ≢ codes "-")
-IsOneName (words.List port file) = ⊥
+IsOneName (words.List port json file) = ⊥
 IsOneName (words.Check checking file) = ⊥
 IsOneName (words.Speak config speaking file) = ⊥
 IsOneName (words.Pair file) = ⊥
 
 -- ---- options
+
+abbrev pub list_form : Bool → ListForm
+list_form json = if json then Json else Text
 
 abbrev pub report_with : Bool → Report
 report_with explain = if explain then WithReason else VerdictAlone
@@ -232,17 +237,17 @@ module _ {R W : Type 0} (remaining : R → Option (List ℕ)) (contents : W → 
       (λ read note. (after : WithFront (FromRead R))
       × IsImportNote remaining file read after imported.ended note)
 
-  -- the connections at this port are listed
-  abbrev pub ListsPackets : ℕ → ListedRecording → Ends → Type 0
-  ListsPackets port listed ends = IsCalled file reader old new ends
+  -- the connections at this port are listed, in this form
+  abbrev pub ListsPackets : ℕ → ListForm → ListedRecording → Ends → Type 0
+  ListsPackets port form listed ends = IsCalled file reader old new ends
       (λ begun read. ListsRecording (GivesRead remaining) has_ended (TakesWritten contents)
-      read_failures write_failures port begun read old new listed)
+      read_failures write_failures port form begun read old new listed)
 
-  -- the sessions of a capture are listed
-  abbrev pub ListsRecords : ListedCapture → Ends → Type 0
-  ListsRecords listed ends = IsCalledWithFront file reader old new ends
+  -- the sessions of a capture are listed, in this form
+  abbrev pub ListsRecords : ListForm → ListedCapture → Ends → Type 0
+  ListsRecords form listed ends = IsCalledWithFront file reader old new ends
       (λ begun read. ListsCapture (GivesFront remaining) front_ended (TakesWritten contents)
-      front_failures write_failures begun read old new listed.status listed.sessions
+      front_failures write_failures form begun read old new listed.status listed.sessions
       listed.fault)
       (IsFileNote commands.List file listed.sessions listed.fault)
 
@@ -285,14 +290,15 @@ pub record ByFront {R : Type 0} (remaining : R → Option (List ℕ)) (reader : 
 
 module _ {R W X : Type 0} (remaining : R → Option (List ℕ)) (contents : W → Option (List ℕ))
     (file : Bor (List ℕ)) (reader : R) (old new : FromWrite W) (answer : Answer X) where
-  abbrev pub ListsFile : ℕ → Type 0
-  ListsFile port = ByFront remaining reader
+  abbrev pub ListsFile : ℕ → ListForm → Type 0
+  ListsFile port form = ByFront remaining reader
       (λ peeked. (listed : ListedRecording) × ((ends : Ends)
       × ((answer ≡ answers.ListedRecording listed ends)
-      × ListsPackets (peeked_remaining remaining) contents file peeked old new port listed ends)))
+      × ListsPackets (peeked_remaining remaining) contents file peeked old new port form listed
+      ends)))
       (λ peeked. (listed : ListedCapture) × ((ends : Ends)
       × ((answer ≡ answers.ListedCapture listed ends)
-      × ListsRecords (peeked_remaining remaining) contents file peeked old new listed ends)))
+      × ListsRecords (peeked_remaining remaining) contents file peeked old new form listed ends)))
 
   abbrev pub ChecksFile : CheckOptions → Type 0
   ChecksFile options = ByFront remaining reader
@@ -326,7 +332,8 @@ module _ {R W X : Type 0} (may_lack : Config → List ShownRecord → ShownRecor
   Answers (words.Import session recording file out) = (imported : Imported) × ((to : Destination)
       × ((ends : Ends) × ((answer ≡ answers.Imported imported to ends) × IsDestination out to
       × ImportsFile remaining contents file reader old new session recording imported ends)))
-  Answers (words.List port file) = ListsFile remaining contents file reader old new answer port
+  Answers (words.List port json file) = ListsFile remaining contents file reader old new answer
+      port (list_form json)
   Answers (words.Check checking file) = ChecksFile remaining contents file
       reader old new answer (check_options checking)
   Answers (words.Speak config speaking file) = ⊥

@@ -14,12 +14,12 @@ ghost use Rattle.bgp_commands.specs.declared.answer.Answer.{Answer as Given};
 use crate::answer::Answer;
 use crate::checking::{check, check_options};
 use crate::importing::import;
-use crate::listing::list;
+use crate::listing::{list, list_form};
 use crate::voice::Voice;
 use bgp_explain::Report;
 use bgp_import::RecordingOptions;
+use bgp_json::OutputForm;
 use bgp_judge::Tracker;
-use bgp_lines::LineForm;
 use bgp_open::Config;
 use bgp_prefix::Session;
 use bgp_recording_tool::{FileOutcome, decode_file, judge_file};
@@ -160,7 +160,9 @@ fn answer_from<'a, A: Allocator + Copy, T: Tracker<A>, R: Read + Ready + Drop, W
             file,
             out,
         } => import(alloc, &session, &recording, file, out, reader, sink),
-        Command::List { port, file } => list(alloc, port, file, reader, sink),
+        Command::List { port, json, file } => {
+            list(alloc, port, list_form(json), file, reader, sink)
+        }
         Command::Check { checking, file } => {
             let options = check_options(&checking);
             check::<A, T, R, W>(alloc, &options, file, reader, sink)
@@ -172,7 +174,7 @@ fn answer_from<'a, A: Allocator + Copy, T: Tracker<A>, R: Read + Ready + Drop, W
 /// Decodes a stream, whose messages may be extended ones or not, in a form.
 fn decode<'a, A: Allocator + Copy, R: Read + Drop, W: Write>(
     alloc: A,
-    form: LineForm,
+    form: OutputForm,
     extended: bool,
     file: &'a str,
     reader: R,
@@ -192,7 +194,7 @@ fn decode<'a, A: Allocator + Copy, R: Read + Drop, W: Write>(
 /// Decodes the records of one session, in a form.
 fn decode_session<'a, A: Allocator + Copy, R: Read + Ready + Drop, W: Write>(
     alloc: A,
-    form: LineForm,
+    form: OutputForm,
     session: Session,
     recording: &RecordingOptions,
     file: &'a str,
