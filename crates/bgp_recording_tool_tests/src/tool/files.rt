@@ -2,6 +2,7 @@
 
 use super::*;
 use crate::two_connections::front;
+use bgp_json::OutputForm;
 use bgp_lines::LineForm;
 use bgp_recording_tool::{decode_file, judge_file};
 use bgp_tool::{Note, Ready, SessionOptions};
@@ -104,8 +105,8 @@ static CHANGE: [u8; 36] = [
     0xc0, 0x00, 0x02, 0x02, 0xc0, 0x00, 0x02, 0x01, 0x00, 0x01, 0x00, 0x03, // addresses, states
 ];
 
-/// Whether a capture is decoded octet by octet as it is at once.
-fn is_decoded(alloc: Global) -> bool {
+/// Whether a capture is decoded octet by octet to this text.
+fn is_decoded(alloc: Global, form: OutputForm, text: &str) -> bool {
     let given = Given {
         octets: &CHANGE,
         error: None,
@@ -113,13 +114,22 @@ fn is_decoded(alloc: Global) -> bool {
     let mut sink = FromWrite::new(Vec::new(alloc));
     let options = SessionOptions {
         session: SESSION,
-        form: LineForm::Plain,
+        form,
     };
     let outcome = decode_file(alloc, &options, &OPTIONS, "a.mrt", Ok(given), &mut sink);
-    outcome.status == 0 && sink.into_inner().as_slice() == b"@100 change 1 3\n".as_slice()
+    outcome.status == 0 && sink.into_inner().as_slice() == text.as_bytes()
 }
+
+/// The line of the change, and its object.
+const LINE: &str = "@100 change 1 3\n";
+
+const OBJECT: &str =
+    "{\"type\":\"change\",\"record\":1,\"second\":100,\"old\":\"Idle\",\"new\":\"Active\"}\n";
 
 #[test]
 fn no_octet_is_lost(rt: HostRuntime) {
-    assert!(rt; is_whole(rt.alloc()) == Some(true) && is_decoded(rt.alloc()));
+    let plain = OutputForm::Text(LineForm::Plain);
+    let json = OutputForm::Json { as2: false };
+    assert!(rt; is_whole(rt.alloc()) == Some(true));
+    assert!(rt; is_decoded(rt.alloc(), plain, LINE) && is_decoded(rt.alloc(), json, OBJECT));
 }
