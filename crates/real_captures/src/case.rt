@@ -1,5 +1,6 @@
 //! A capture and its answer, told by a block of lines.
 
+use bgp_json::OutputForm;
 use bgp_lines::LineForm;
 use bgp_prefix::{Address, RouteRefresh, Session, read_address};
 use hex::FromHexError;
@@ -13,12 +14,12 @@ pub(crate) struct Piece {
     pub(crate) text: String,
 }
 
-/// A capture of one session or a stream, the form of its lines, and the status that decoding it
-/// answers.
+/// A capture of one session or a stream, the form in which it is printed, and the status that
+/// decoding it answers. Of a stream the session says how long a message may be.
 #[derive(Drop)]
 pub(crate) struct Case {
     pub(crate) session: Session,
-    pub(crate) form: LineForm,
+    pub(crate) form: OutputForm,
     pub(crate) pieces: Vec<Piece>,
     pub(crate) status: u8,
 }
@@ -34,7 +35,7 @@ pub(crate) fn read_case(alloc: Global, block: &str) -> io::Result<Case> {
             refresh: RouteRefresh::NotOffered,
             extended: false,
         },
-        form: LineForm::Plain,
+        form: OutputForm::Text(LineForm::Plain),
         pieces: Vec::new(alloc),
         status: 0,
     };
@@ -64,13 +65,16 @@ fn take_line(alloc: Global, case: &mut Case, line: &str) -> io::Result<()> {
     }
 }
 
-/// Takes what the words of the command tell: the form of the lines, and the session of a capture.
+/// Takes what the words of the command tell: the form of what is printed, how long a message may
+/// be, and the session of a capture.
 fn take_words(case: &mut Case, words: &str) -> io::Result<()> {
-    if has_word(words, "--names") {
-        case.form = LineForm::Names {
-            as2: has_word(words, "--as2"),
-        };
+    let as2 = has_word(words, "--as2");
+    if has_word(words, "--json") {
+        case.form = OutputForm::Json { as2 };
+    } else if has_word(words, "--names") {
+        case.form = OutputForm::Text(LineForm::Names { as2 });
     }
+    case.session.extended = has_word(words, "--extended");
     if has_word(words, "--mrt") {
         take_session(&mut case.session, words)
     } else {
@@ -82,7 +86,6 @@ fn take_words(case: &mut Case, words: &str) -> io::Result<()> {
 fn take_session(session: &mut Session, words: &str) -> io::Result<()> {
     session.peer = address_behind(words, "--peer")?;
     session.local = address_behind(words, "--local")?;
-    session.extended = has_word(words, "--extended");
     if has_word(words, "--skip-refresh") {
         session.refresh = RouteRefresh::PassedOver;
     }

@@ -1,7 +1,6 @@
 //! Streams of one direction, and the lines that are printed of them.
 
-use crate::case::{Piece, malformed, read_case};
-use bgp_lines::LineForm;
+use crate::case::{Case, Piece, malformed, read_case};
 use bgp_tool::{StreamOptions, decode_raw, text_and_status};
 use bgp_wire::Limit;
 use mrt::{MemSink, MemSource};
@@ -20,14 +19,14 @@ pub(crate) fn is_stream(alloc: Global, block: &str) -> io::Result<bool> {
     let [stream] = case.pieces.as_slice() else {
         return Err(malformed());
     };
-    Ok(are_lines(alloc, options_of(case.form), stream, case.status)?)
+    Ok(are_lines(alloc, options_of(&case), stream, case.status)?)
 }
 
-/// How a stream is decoded whose lines have this form.
-fn options_of(form: LineForm) -> StreamOptions {
+/// How the stream of a case is decoded.
+fn options_of(case: &Case) -> StreamOptions {
     StreamOptions {
-        limit: Limit::Plain,
-        form,
+        limit: Limit::with_extended(case.session.extended),
+        form: case.form,
     }
 }
 

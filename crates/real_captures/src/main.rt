@@ -21,7 +21,8 @@
 //! UPDATEs and the texts of addresses are compared with tables that other programs made, and those
 //! of UPDATEs with one that was worked out by hand (docs/UPDATE-ERRORS.md), too. So were the lines
 //! of the streams in `streams-by-hand.txt`, and what is found in the OPENs of `opens-by-hand.txt`.
-//! The lines in words of the streams in `names.txt` were answered by another program.
+//! The lines in words of the streams in `names.txt`, and those in JSON of `json.txt`, were answered
+//! by another program.
 //!
 //! `told.txt` and `breaks.txt` were, too: commands over readers and writers that may fail, with
 //! what they tell on standard error.

@@ -1,6 +1,7 @@
 //! The streams of real routers that lie in `streams/`.
 
 use crate::sessions::print_sessions;
+use bgp_json::OutputForm;
 use bgp_lines::LineForm;
 use bgp_tool::{StreamOptions, decode_raw};
 use bgp_wire::Limit;
@@ -55,7 +56,7 @@ fn print_stream<R: Files + Print + AllocGlobal>(
     let mut sink = FromWrite::new(io::writer(rt));
     let options = StreamOptions {
         limit,
-        form: LineForm::Plain,
+        form: OutputForm::Text(LineForm::Plain),
     };
     let status = decode_raw(options, rt.alloc(), &mut source, &mut sink);
     println!(rt; "status {status}")

@@ -1,5 +1,6 @@
 //! The captures of real routers' sessions that lie in the folder where the program runs.
 
+use bgp_json::OutputForm;
 use bgp_lines::LineForm;
 use bgp_prefix::{Address, RouteRefresh, Session};
 use bgp_tool::{SessionOptions, decode_capture};
@@ -84,8 +85,8 @@ fn print_capture<R: Files + Print + AllocGlobal>(rt: &R, name: &str) -> io::Resu
     let mut reader = Reader::new(rt.alloc());
     let options = SessionOptions {
         session: session_of(name),
-        form: LineForm::Plain,
+        form: OutputForm::Text(LineForm::Plain),
     };
-    let status = decode_capture(&mut reader, &options, &mut source, &mut sink);
+    let status = decode_capture(rt.alloc(), &mut reader, &options, &mut source, &mut sink);
     println!(rt; "status {status}")
 }

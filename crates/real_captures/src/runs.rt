@@ -50,7 +50,7 @@ fn decode(
         session: case.session,
         form: case.form,
     };
-    let status = decode_capture(&mut reader, &options, &mut source, &mut sink);
+    let status = decode_capture(alloc, &mut reader, &options, &mut source, &mut sink);
     let given = source.given();
     Ok(Answer {
         text: sink.into_octets(),

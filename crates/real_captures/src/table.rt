@@ -29,7 +29,7 @@ enum Told {
 }
 
 /// The tables, and what their cases tell of.
-static TABLES: [(&str, Told); 19] = [
+static TABLES: [(&str, Told); 20] = [
     ("cases.txt", Told::Lines),
     ("rules.txt", Told::LinesAnywhere),
     ("cases-extended.txt", Told::Lines),
@@ -46,6 +46,7 @@ static TABLES: [(&str, Told); 19] = [
     ("updates-by-hand.txt", Told::Outcomes),
     ("streams-by-hand.txt", Told::StreamLines),
     ("names.txt", Told::StreamLines),
+    ("json.txt", Told::StreamLines),
     ("opens-by-hand.txt", Told::Open),
     ("told.txt", Told::Command),
     ("breaks.txt", Told::Command),

@@ -14,12 +14,13 @@ use std::rt::Files;
 use std::{fs, io};
 
 /// Command lines, without the program's name and the file's.
-static LINES: [&str; 5] = [
+static LINES: [&str; 6] = [
     "list",
     "check",
     "judge --local-as 65001 --peer-as 65002 --local-id 192.0.2.1 --local 192.0.2.1 \
      --peer 192.0.2.2 --families both",
     "decode --mrt --peer 192.0.2.2 --local 192.0.2.1",
+    "decode --json --mrt --peer 192.0.2.2 --local 192.0.2.1",
     "import --local 192.0.2.1 --peer 192.0.2.2",
 ];
 

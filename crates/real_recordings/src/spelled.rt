@@ -2,6 +2,7 @@
 
 use bgp_commands::words_status;
 use bgp_import::RecordingOptions;
+use bgp_json::OutputForm;
 use bgp_lines::LineForm;
 use bgp_open::{ConfigParts, Families, RouteOffer};
 use bgp_prefix::{Address, RouteRefresh, Session};
@@ -105,7 +106,10 @@ fn put_command(text: &mut String, command: &Command<'_>) -> Result<(), AllocErro
             file,
             out,
         } => put_import(text, session, recording, file, out),
-        Command::List { port, file } => write!(text, "list port {port} file {file:?}"),
+        Command::List { port, json, file } => {
+            let json = if *json { " json" } else { "" };
+            write!(text, "list port {port}{json} file {file:?}")
+        }
         Command::Check { checking, file } => put_check(text, checking, file),
         Command::Speak {
             config,
@@ -119,7 +123,7 @@ fn put_command(text: &mut String, command: &Command<'_>) -> Result<(), AllocErro
 /// Puts what `decode --mrt` is told.
 fn put_capture(
     text: &mut String,
-    form: LineForm,
+    form: OutputForm,
     session: &Session,
     recording: &RecordingOptions,
     file: &str,
@@ -206,12 +210,14 @@ fn refresh_text(refresh: RouteRefresh) -> &'static str {
     }
 }
 
-/// The words that say in which form lines are, each after a blank.
-fn form_text(form: LineForm) -> &'static str {
+/// The words that say in which form messages are printed, each after a blank.
+fn form_text(form: OutputForm) -> &'static str {
     match form {
-        LineForm::Plain => "",
-        LineForm::Names { as2: false } => " names",
-        LineForm::Names { as2: true } => " names as2",
+        OutputForm::Text(LineForm::Plain) => "",
+        OutputForm::Text(LineForm::Names { as2: false }) => " names",
+        OutputForm::Text(LineForm::Names { as2: true }) => " names as2",
+        OutputForm::Json { as2: false } => " json",
+        OutputForm::Json { as2: true } => " json as2",
     }
 }
 

@@ -16,7 +16,7 @@ enum Kind {
     Prefixes,
 }
 
-static TABLES: [(&str, Kind); 14] = [
+static TABLES: [(&str, Kind); 15] = [
     ("cases.txt", Kind::Cases),
     ("judged.txt", Kind::Cases),
     ("explained.txt", Kind::Cases),
@@ -29,6 +29,7 @@ static TABLES: [(&str, Kind); 14] = [
     ("orders.txt", Kind::FirstColumn),
     ("options.txt", Kind::Cases),
     ("names.txt", Kind::Cases),
+    ("json.txt", Kind::Cases),
     ("words.txt", Kind::CommandLines),
     ("announced.txt", Kind::Prefixes),
 ];
