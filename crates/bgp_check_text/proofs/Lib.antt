@@ -11,3 +11,5 @@ pub mod Held
 pub mod RestTexts
 pub mod AtRecord
 mod SomeOffers
+pub mod Fronts
+pub mod SomeEnd

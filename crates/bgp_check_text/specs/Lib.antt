@@ -1,5 +1,7 @@
 pub mod AsNumber
 pub mod Highest
+pub mod LastTold
+pub mod Reached
 pub mod End
 pub mod States
 pub mod Text

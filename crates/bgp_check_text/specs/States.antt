@@ -11,6 +11,7 @@ use Rattle.bgp_machine.specs.State.{number_of}
 use Rattle.bgp_names.specs.Families.{families_name}
 use Rattle.bgp_names.specs.States.{state_name}
 use Rattle.bgp_text.specs.RouteText.{route_text}
+use Rattle.bgp_check_text.specs.Reached.{ReachedValue}
 
 -- families that are disabled
 unfoldable pub with_text : List ℕ → List ℕ
@@ -31,9 +32,20 @@ established_text disabled count =
     codes "Established" ++ (disabled_text disabled ++ (codes ", routes from its peer: "
     ++ decimal count))
 
+-- `0 or 3`, by numbers of routes that ascend
+abbrev pub or_count : ℕ → List ℕ
+or_count count = codes " or " ++ decimal count
+
+-- how many routes from the peer the ends before had, if there are some
+abbrev pub counts_text : List ℕ → List ℕ
+counts_text [] = []
+counts_text (count ∷ others) =
+    codes ", routes from its peer before that: " ++ (decimal count ++ flat_map or_count others)
+
 -- a lower state after Established
-unfoldable pub left_text : ℕ → List ℕ
-left_text number = state_name number ++ codes " after Established"
+unfoldable pub left_text : ℕ → List ℕ → List ℕ
+left_text number counts =
+    state_name number ++ (codes " after Established" ++ counts_text counts)
 
 -- the highest state before it, if that is higher
 abbrev pub after_text : ℕ → ℕ → List ℕ
@@ -45,25 +57,26 @@ unfoldable pub never_text : ℕ → ℕ → List ℕ
 never_text number highest =
     state_name number ++ (after_text number highest ++ codes ", never Established")
 
--- a state below Established (RFC 6396, 4.4.1: 6), by the highest one that the records tell
-abbrev pub lower_text : ℕ → ℕ → List ℕ
-lower_text number highest =
-    if highest == 6 then left_text number else never_text number highest
+-- a state below Established (RFC 6396, 4.4.1: 6), by how far the session came before
+abbrev pub lower_text : ℕ → ReachedValue → List ℕ
+lower_text number reached =
+    if reached.highest == 6 then left_text number reached.counts
+    else never_text number reached.highest
 
 -- the state of a possible end
-abbrev pub state_text : ℕ → End → List ℕ
-state_text highest e =
+abbrev pub state_text : ReachedValue → End → List ℕ
+state_text reached e =
     if number_of e.fsm == 6
     then established_text e.routes.disabled (length e.routes.entries)
-    else lower_text (number_of e.fsm) highest
+    else lower_text (number_of e.fsm) reached
 
-abbrev pub or_state : ℕ → End → List ℕ
-or_state highest e = codes ", or " ++ state_text highest e
+abbrev pub or_state : ReachedValue → End → List ℕ
+or_state reached e = codes ", or " ++ state_text reached e
 
 -- those of all possible ends
-abbrev pub states_text : ℕ → List End → List ℕ
-states_text highest [] = []
-states_text highest (e ∷ ends) = state_text highest e ++ flat_map (or_state highest) ends
+abbrev pub states_text : ReachedValue → List End → List ℕ
+states_text reached [] = []
+states_text reached (e ∷ ends) = state_text reached e ++ flat_map (or_state reached) ends
 
 -- ---- their routes
 
@@ -74,19 +87,34 @@ abbrev pub routes_text : End → List ℕ
 routes_text e = flat_map route_line e.routes.entries
 
 -- after a line with its state
-unfoldable pub state_line : ℕ → End → List ℕ
-state_line highest e = codes "  " ++ (state_text highest e ++ codes "\n")
+unfoldable pub state_line : ReachedValue → End → List ℕ
+state_line reached e = codes "  " ++ (state_text reached e ++ codes "\n")
 
-abbrev pub state_routes : ℕ → End → List ℕ
-state_routes highest e = state_line highest e ++ routes_text e
+abbrev pub state_routes : ReachedValue → End → List ℕ
+state_routes reached e = state_line reached e ++ routes_text e
 
 -- those of each end, so if there are several
-abbrev pub all_routes : ℕ → List End → List ℕ
-all_routes highest ends =
+abbrev pub end_routes : ReachedValue → List End → List ℕ
+end_routes reached ends =
     if length ends == 1 then flat_map routes_text ends
-    else flat_map (state_routes highest) ends
+    else flat_map (state_routes reached) ends
+
+-- an end before, with these families disabled and so many routes
+unfoldable pub before_line : Families → ℕ → List ℕ
+before_line disabled count =
+    codes "  before that" ++ (disabled_text disabled ++ (codes ", routes from its peer: "
+    ++ (decimal count ++ codes "\n")))
+
+-- and its routes
+abbrev pub before_routes : End → List ℕ
+before_routes e =
+    before_line e.routes.disabled (length e.routes.entries) ++ routes_text e
+
+-- the routes of the ends, and then those of the ends before
+abbrev pub all_routes : ReachedValue → List End → List ℕ
+all_routes reached ends = end_routes reached ends ++ flat_map before_routes reached.before
 
 -- if they are told
-abbrev pub routes_if : Bool → ℕ → List End → List ℕ
-routes_if true highest ends = all_routes highest ends
-routes_if false highest ends = []
+abbrev pub routes_if : Bool → ReachedValue → List End → List ℕ
+routes_if true reached ends = all_routes reached ends
+routes_if false reached ends = []

@@ -10,6 +10,7 @@ use Rattle.bgp_why.specs.Place.{place_text}
 use Rattle.bgp_why.specs.State.{as_text}
 use Rattle.bgp_why.specs.declared.place.Place.{Place}
 use Rattle.bgp_check_text.specs.End.{end_text}
+use Rattle.bgp_check_text.specs.Reached.{ReachedValue}
 use Rattle.bgp_check_text.specs.States.{routes_if, states_text}
 use Rattle.bgp_check_text.specs.declared.end.EndName.{EndName}
 
@@ -38,15 +39,15 @@ peer_text (peers.Is number) = []
 peer_text (peers.OtherThan number) =
     codes ", if configured for a peer in another AS than " ++ as_text number
 
-unfoldable pub yes_line : EndName → PeerAs → ℕ → List End → List ℕ
-yes_line name peer highest ends =
+unfoldable pub yes_line : EndName → PeerAs → ReachedValue → List End → List ℕ
+yes_line name peer reached ends =
     codes "yes: " ++ (end_text name ++ (peer_text peer ++ (codes ": "
-    ++ (states_text highest ends ++ codes "\n"))))
+    ++ (states_text reached ends ++ codes "\n"))))
 
--- and the routes of its possible ends, if they are told
-abbrev pub yes_lines : Bool → EndName → PeerAs → ℕ → List End → List ℕ
-yes_lines routes name peer highest ends =
-    yes_line name peer highest ends ++ routes_if routes highest ends
+-- and the routes of its possible ends and of those before, if they are told
+abbrev pub yes_lines : Bool → EndName → PeerAs → ReachedValue → List End → List ℕ
+yes_lines routes name peer reached ends =
+    yes_line name peer reached ends ++ routes_if routes reached ends
 
 -- ---- a no, and what is unfinished
 

@@ -18,7 +18,7 @@ fn new_state(told: &Record<'_>) -> u16
 
 /// The number of the highest state to which one of these records changes (RFC 6396, 4.4.1): 0 where
 /// none does.
-pub fn highest_state(records: &[Record<'_>]) -> u16
+pub(crate) fn highest_state(records: &[Record<'_>]) -> u16
     ensures { result ≡ highest_state (map shown_of records.now) }
 {
     let mut highest = 0;

@@ -4,11 +4,13 @@ ghost use Rattle.std.specs.Prelude.{map};
 ghost use Rattle.bgp_judge.specs.Ends.{end_value};
 ghost use Rattle.bgp_text.specs.Lines.{Writes};
 ghost use Rattle.bgp_why.specs.State.{as_text};
+ghost use Rattle.bgp_check_text.specs.Reached.{reached_value};
 ghost use Rattle.bgp_check_text.specs.Text.{deed_if, no_line, not_judged_line, peer_text};
 ghost use Rattle.bgp_check_text.specs.Text.{place_when, unfinished_line, why_text, yes_line};
 ghost use Rattle.bgp_check_text.specs.Text.{yes_lines};
 
 use crate::end::{EndName, put_end};
+use crate::reached::Reached;
 use crate::states::{put_routes_if, put_states};
 use bgp_check::{NotJudged, PeerAs};
 use bgp_clock::put_when;
@@ -84,35 +86,35 @@ fn put_yes_line<W: Sink, A: Allocator>(
     name: &EndName,
     peer: PeerAs,
     endings: &[End<A>],
-    highest: u16,
+    reached: &Reached<A>,
 )
     ensures { Writes lines.old lines.new
-        (yes_line name.now peer highest (map end_value endings.now)) }
+        (yes_line name.now peer (reached_value reached.now) (map end_value endings.now)) }
 {
     lines.put(b"yes: ");
     put_end(lines, name);
     put_peer(lines, peer);
     lines.put(b": ");
-    put_states(lines, endings, highest);
+    put_states(lines, endings, reached);
     lines.put(b"\n");
 }
 
-/// Puts the line of a yes on records of which this is the highest state, with all possible ends:
-/// `yes: 192.0.2.1:179 (AS 65001): Established, routes from its peer: 2`; and then the lines of
-/// their routes, if these are told.
+/// Puts the line of a yes on a session that came so far, with all possible ends: `yes:
+/// 192.0.2.1:179 (AS 65001): Established, routes from its peer: 2`. Then puts the lines of their
+/// routes and of those before, if these are told.
 pub fn put_yes<W: Sink, A: Allocator>(
     lines: &mut Lines<'_, W>,
     name: &EndName,
     peer: PeerAs,
     endings: &[End<A>],
-    highest: u16,
+    reached: &Reached<A>,
     routes: bool,
 )
-    ensures { Writes lines.old lines.new
-        (yes_lines routes name.now peer highest (map end_value endings.now)) }
+    ensures { Writes lines.old lines.new (yes_lines routes name.now peer
+        (reached_value reached.now) (map end_value endings.now)) }
 {
-    put_yes_line(lines, name, peer, endings, highest);
-    put_routes_if(lines, endings, highest, routes);
+    put_yes_line(lines, name, peer, endings, reached);
+    put_routes_if(lines, endings, reached, routes);
 }
 
 /// Where a record stands, and its time.

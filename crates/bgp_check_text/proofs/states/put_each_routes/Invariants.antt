@@ -2,6 +2,7 @@ use Rattle.std.proofs.Common.{◌≡◌, ◌++◌, List, ℕ, drop}
 use Rattle.std.specs.List.{flat_map}
 use Rattle.bgp_judge.specs.Ends.{end_value}
 use Rattle.bgp_text.specs.Lines.{Writes}
+use Rattle.bgp_check_text.specs.Reached.{reached_value}
 use Rattle.bgp_check_text.specs.States.{state_routes}
 use Rattle.bgp_check_text.proofs.states.put_each_routes.Given as goal
 
@@ -9,5 +10,5 @@ use Rattle.bgp_check_text.proofs.states.put_each_routes.Given as goal
 abbrev pub invariant-loop-ending : goal.invariant-loop-ending
 invariant-loop-ending g l =
     (text : List ℕ) × Writes l.fn.lines l.lines text
-    × (text ++ flat_map (λ e. state_routes l.highest (end_value e)) (drop l.ending-index l.endings)
-    ≡ flat_map (λ e. state_routes l.highest (end_value e)) l.fn.endings)
+    × (text ++ flat_map (λ e. state_routes (reached_value l.reached) (end_value e)) (drop l.ending-index l.endings)
+    ≡ flat_map (λ e. state_routes (reached_value l.reached) (end_value e)) l.fn.endings)

@@ -6,4 +6,4 @@ pub returns : goal.returns
 unfolding left_text
 returns g c =
     let law : Joins g.W.Sink = record { joined = g.met.W.Sink.joined } in
-    and_then law c.put_state_name.ensures c.put.ensures
+    and_then law c.put_state_name.ensures (and_then law c.put.ensures c.put_counts.ensures)

@@ -1,0 +1,13 @@
+use Rattle.std.proofs.Common.{◌≡◌, ◌++◌, List, ℕ, drop}
+use Rattle.std.specs.List.{flat_map}
+use Rattle.bgp_judge.specs.Ends.{end_value}
+use Rattle.bgp_text.specs.Lines.{Writes}
+use Rattle.bgp_check_text.specs.States.{before_routes}
+use Rattle.bgp_check_text.proofs.states.put_all_before.Given as goal
+
+-- what is written and what is left to write are the ends
+abbrev pub invariant-loop-ending : goal.invariant-loop-ending
+invariant-loop-ending g l =
+    (text : List ℕ) × Writes l.fn.lines l.lines text
+    × (text ++ flat_map (λ e. before_routes (end_value e)) (drop l.ending-index l.endings)
+    ≡ flat_map (λ e. before_routes (end_value e)) l.fn.endings)

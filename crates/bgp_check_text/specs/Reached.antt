@@ -1,0 +1,104 @@
+-- How far a session came before its end: the highest state that its records tell, and the routes
+-- that stood before it left Established.
+use Rattle.std.specs.Prelude.{◌≡◌, ◌≢◌, ◌⊎◌, ◌==◌, ◌<◌, ◌≤◌, ◌++◌, ℕ, Bool, true, false, not}
+use Rattle.std.specs.Prelude.{List, [], ◌∷◌, length, map, nat_lt, take}
+use Rattle.std.specs.List.{filter, list_any}
+use Rattle.bgp_prefix.specs.Shown.{ShownRecord}
+use Rattle.bgp_open.specs.declared.config.Config.{Config}
+use Rattle.bgp_machine.specs.Lists.{Each}
+use Rattle.bgp_machine.specs.Run.{End, IsComplete}
+use Rattle.bgp_machine.specs.State.{number_of}
+use Rattle.bgp_machine.specs.declared.fsm.Fsm.TheVariants as fsms
+use Rattle.bgp_judge.specs.Ends.{ListsEnds, end_value}
+use Rattle.bgp_judge.specs.Verdict.{No, Unfinished, VerdictValue, Yes}
+use Rattle.bgp_check.specs.Answered.{AnswerValue, JudgedAs, Unjudged}
+use Rattle.bgp_check_text.specs.Highest.{highest_state}
+use Rattle.bgp_check_text.specs.declared.reached.Reached.{Reached}
+
+-- ---- the ends before
+
+-- some run under this configuration shows just the records, and ends in Established
+abbrev pub EndsEstablished : Config → List ShownRecord → Type 0
+EndsEstablished config records =
+    (e : End) × IsComplete config records e × (e.fsm ≡ fsms.Established)
+
+-- Of all fronts of the records with such a run, one is the longest. These are all ends of the runs
+-- that show just that one.
+pub record AreOfLongestFront (config : Config) (records : List ShownRecord) (ends : List End)
+    : Type 0 where
+  pub count : ℕ
+  pub is_front : count ≤ length records
+  pub has_some : ends ≢ []
+  pub lists : ListsEnds config (take count records) ends
+  pub are_established : Each (λ e. e.fsm ≡ fsms.Established) ends
+  pub is_longest : (n : ℕ) → count < n → n ≤ length records
+      → ¬ EndsEstablished config (take n records)
+
+-- or no front has such a run
+abbrev pub NoFrontEndsEstablished : Config → List ShownRecord → Type 0
+NoFrontEndsEstablished config records =
+    (n : ℕ) → n ≤ length records → ¬ EndsEstablished config (take n records)
+
+abbrev pub AreBefore : Config → List ShownRecord → List End → Type 0
+AreBefore config records before =
+    AreOfLongestFront config records before
+    ⊎ ((before ≡ []) × NoFrontEndsEstablished config records)
+
+-- ---- where they are told
+
+-- a possible end is in a lower state than Established (RFC 6396, 4.4.1: 6)
+abbrev pub has_lower : List End → Bool
+has_lower ends = list_any (λ e. not (number_of e.fsm == 6)) ends
+
+abbrev pub AreBeforeIf : Bool → Config → List ShownRecord → List End → Type 0
+AreBeforeIf true config records before = AreBefore config records before
+AreBeforeIf false config records before = before ≡ []
+
+abbrev pub AreBeforeOf : Config → List ShownRecord → VerdictValue → List End → Type 0
+AreBeforeOf config records (Yes ends) before =
+    AreBeforeIf (has_lower ends) config records before
+AreBeforeOf config records (No count) before = before ≡ []
+AreBeforeOf config records Unfinished before = before ≡ []
+
+-- under the configuration under which the verdict is told
+abbrev pub AreBeforeTo : List ShownRecord → AnswerValue → List End → Type 0
+AreBeforeTo records (Unjudged why) before = before ≡ []
+AreBeforeTo records (JudgedAs number peer under verdict) before =
+    AreBeforeOf under records verdict before
+
+-- ---- how many routes they have
+
+-- a count among others that ascend: those below it, itself, and those above it
+abbrev pub with_count : ℕ → List ℕ → List ℕ
+with_count count others =
+    filter (λ other. nat_lt other count) others
+    ++ count ∷ filter (λ other. nat_lt count other) others
+
+-- the counts of the ends, each once, ascending
+abbrev pub counts_of : List End → List ℕ
+counts_of [] = []
+counts_of (e ∷ ends) = with_count (length e.routes.entries) (counts_of ends)
+
+-- ---- all of it
+
+pub record ReachedValue : Type 0 where
+  -- the number of the highest state
+  pub highest : ℕ
+  -- the ends before
+  pub before : List End
+  -- how many routes they have
+  pub counts : List ℕ
+
+abbrev pub reached_value : {X : Type 0} → Reached X → ReachedValue
+reached_value reached = record {
+  highest = reached.highest;
+  before = map end_value reached.before.items;
+  counts = reached.counts.items;
+}
+
+-- so far a session came of which this is answered, by these records
+pub record IsReached (records : List ShownRecord) (answer : AnswerValue) (reached : ReachedValue)
+    : Type 0 where
+  pub is_highest : reached.highest ≡ highest_state records
+  pub are_before : AreBeforeTo records answer reached.before
+  pub are_counts : reached.counts ≡ counts_of reached.before
