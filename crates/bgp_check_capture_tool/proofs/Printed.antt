@@ -33,6 +33,7 @@ use Rattle.bgp_check.specs.Named.{NoNamesItsRecord}
 use Rattle.bgp_check.specs.StretchLaws.{IsLeftSo, JudgedAreStretches}
 use Rattle.bgp_check.specs.StretchTold.{IsStretchTold, ToldValue, place_of, with_leaving}
 use Rattle.bgp_check.proofs.Stretched.{no_by}
+use Rattle.bgp_check_text.specs.Reached.{ReachedValue}
 use Rattle.bgp_check_text.specs.End.{as_text, end_text as name_text, part_by}
 use Rattle.bgp_check_text.specs.Text.{deed_if, no_line, not_judged_line, place_when, unfinished_line, yes_line, yes_lines}
 use Rattle.bgp_check_text.specs.declared.end.EndName.{EndName}
@@ -81,9 +82,9 @@ no_first : (rest : List ℕ) → first (codes "no " ++ rest) ≡ 110
 unfolding first
 no_first rest = refl
 
-yes_first : (routes : Bool) (name : EndName) (peer : PeerAs) (highest : ℕ) (ends : List RunEnd) (rest : List ℕ) → first (yes_lines routes name peer highest ends ++ rest) ≡ 121
+yes_first : (routes : Bool) (name : EndName) (peer : PeerAs) (reached : ReachedValue) (ends : List RunEnd) (rest : List ℕ) → first (yes_lines routes name peer reached ends ++ rest) ≡ 121
 unfolding first yes_line
-yes_first routes name peer highest ends rest = refl
+yes_first routes name peer reached ends rest = refl
 
 unfinished_first : (place : Place) (name : EndName) (rest : List ℕ) → first (unfinished_line place name ++ rest) ≡ 117
 unfolding first unfinished_line
@@ -93,7 +94,7 @@ no_by_text : (routes : Bool) (end : StretchEnd) (answer : AnswerValue) (rest : L
 no_by_text routes end (Unjudged why) rest is =
     let differs : 116 ≡ 32 = sym (unjudged_third end.name why) ∙ ap third is ∙ no_third rest in absurd (omega (arith, differs))
 no_by_text routes end (JudgedAs number peer under (Yes ends)) rest is =
-    let differs : 121 ≡ 110 = sym (yes_first routes end.name peer end.highest ends (told_end_line (is_over ends) end.ended ++ notes_text end)) ∙ ap first is ∙ no_first rest in absurd (omega (arith, differs))
+    let differs : 121 ≡ 110 = sym (yes_first routes end.name peer end.reached ends (told_end_line (is_over ends) end.ended ++ notes_text end)) ∙ ap first is ∙ no_first rest in absurd (omega (arith, differs))
 no_by_text routes end (JudgedAs number peer under (No count)) rest is = record { number = number; peer = peer; under = under; count = count; is = refl }
 no_by_text routes end (JudgedAs number peer under Unfinished) rest is =
     let differs : 117 ≡ 110 = sym (unfinished_first end.place end.name (end.reason ++ notes_text end)) ∙ ap first is ∙ no_first rest in absurd (omega (arith, differs))

@@ -1,6 +1,6 @@
 -- What is told of a stretch of a session in a capture.
-use Rattle.std.specs.Prelude.{◌≡◌, false, ℕ, List, [], Option, None, Some, length, map}
-use Rattle.std.specs.Prelude.{option_map}
+use Rattle.std.specs.Prelude.{◌≡◌, ◌-◌, false, ℕ, List, [], Option, None, Some, length, map}
+use Rattle.std.specs.Prelude.{option_map, take}
 use Rattle.bgp_prefix.specs.Shown.{ShownRecord}
 use Rattle.bgp_prefix.specs.declared.session.Session.{Session}
 use Rattle.bgp_why.specs.declared.endpoint.Endpoint.{Endpoint}
@@ -13,7 +13,7 @@ use Rattle.bgp_list.specs.Sessions.{first_second}
 use Rattle.bgp_check_text.specs.Reason.{IsReasonTo, deed_text, lines_text}
 use Rattle.bgp_check_text.specs.declared.end.EndName.{EndName}
 use Rattle.bgp_check_text.specs.declared.reason.Reason.{Reason}
-use Rattle.bgp_check_text.specs.Highest.{highest_state}
+use Rattle.bgp_check_text.specs.Reached.{IsReached, ReachedValue, reached_value}
 use Rattle.bgp_explain.specs.Places.{numbered_places}
 use Rattle.bgp_check_text.specs.declared.options.JudgeOptions.{JudgeOptions}
 use Rattle.bgp_check_capture_tool.specs.Judging.{AreOptionsOf}
@@ -32,8 +32,8 @@ pub record StretchEnd : Type 0 where
   -- how a line names the local system
   pub name : EndName
   pub told : ToldValue
-  -- the number of the highest state that it tells
-  pub highest : ℕ
+  -- how far the session came in it before its end
+  pub reached : ReachedValue
   -- how it ended, if it did
   pub ended : Option ToldEndValue
   -- the record at which a no stands, or after which it is unfinished
@@ -60,7 +60,7 @@ stretch_value end = record {
   part = end.part;
   name = end.name;
   told = told_value end.told;
-  highest = end.highest;
+  reached = reached_value end.reached;
   ended = option_map told_end_value end.ended;
   place = end.place;
   deed = deed_in end.reason;
@@ -91,6 +91,11 @@ IsReasonFor view before told deed lines =
     (endpoint_of view.session.peer) (numbered_places (numbers_of before told.places)) told.records
     told.answer deed lines
 
+-- the stretch's own records, of those that are judged: all but the one that leaves it
+abbrev pub own_records : List ShownRecord → Option ShownRecord → List ShownRecord
+own_records judged None = judged
+own_records judged (Some leaving) = take (length judged - 1) judged
+
 -- This is told of the stretch before which so many records stand, and which this one leaves: how it
 -- ended, what is answered of it, and why, and how `bgp judge` gives it.
 pub record IsStretchEnd (view : View) (before : ℕ) (stretch : List ShownRecord)
@@ -98,7 +103,7 @@ pub record IsStretchEnd (view : View) (before : ℕ) (stretch : List ShownRecord
   pub is_part : end.part ≡ record { before = before; count = length stretch }
   pub is_name : IsNameOf view.session.local before stretch leaving end.name
   pub is_told : IsStretchTold view.session stretch (length stretch) leaving end.told
-  pub is_highest : end.highest ≡ highest_state stretch
+  pub is_reached : IsReached (own_records end.told.records leaving) end.told.answer end.reached
   pub tells_end : IsEndTold (first_second view.named) view.session before stretch end.ended
   pub is_place : end.place ≡ place_in before end.told
   pub explains : IsReasonFor view before end.told end.deed end.reason

@@ -32,7 +32,7 @@ notes_text end = passed_notes end.told.received end.told.sent ++ judge_text end.
 
 abbrev pub verdict_text : Bool → StretchEnd → PeerAs → VerdictValue → List ℕ
 verdict_text routes end peer (Yes ends) =
-    yes_lines routes end.name peer end.highest ends
+    yes_lines routes end.name peer end.reached ends
     ++ (told_end_line (is_over ends) end.ended ++ notes_text end)
 verdict_text routes end peer (No count) =
     no_line end.place end.name end.deed ++ (end.reason ++ notes_text end)

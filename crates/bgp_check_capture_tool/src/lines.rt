@@ -88,12 +88,12 @@ fn put_verdict<W: Sink, A: Allocator>(
     ensures { Writes lines.old lines.new (verdict_text routes (stretch_value end.now)
         judged.now.peer_as (verdict_value judged.now.verdict)) }
 {
-    let (name, highest) = (&end.name, end.highest);
+    let (name, reached) = (&end.name, &end.reached);
     match &judged.verdict {
         Verdict::Yes(endings) => {
             let endings = endings.as_slice();
             let is_over = is_over(endings);
-            put_yes(lines, name, judged.peer_as, endings, highest, routes);
+            put_yes(lines, name, judged.peer_as, endings, reached, routes);
             put_told_end(lines, end.ended, is_over);
             put_notes(lines, end);
         }

@@ -1,6 +1,6 @@
 //! What is told of a stretch of a session.
 
-ghost use Rattle.std.specs.Prelude.{◌<◌, ◌+◌, IfOk, length, map, option_map};
+ghost use Rattle.std.specs.Prelude.{◌≡◌, ◌<◌, ◌+◌, IfOk, length, map, option_map};
 ghost use Rattle.std.specs.List.{AllByRecursion};
 ghost use Rattle.mrt.specs.Reader.{shown_of};
 ghost use Rattle.mrt_sessions.specs.Located.{located};
@@ -9,7 +9,8 @@ ghost use Rattle.bgp_check.specs.StretchTold.{told_value};
 ghost use Rattle.bgp_check_text.specs.Reason.{deed_text, lines_text};
 ghost use Rattle.bgp_check_capture_tool.specs.Judging.{IsToldOfSome};
 ghost use Rattle.bgp_check_capture_tool.specs.StretchEnd.{IsReasonFor, IsStretchEnd, deed_in};
-ghost use Rattle.bgp_check_capture_tool.specs.StretchEnd.{lines_in, stretch_value, view_value};
+ghost use Rattle.bgp_check_capture_tool.specs.StretchEnd.{lines_in, own_records, stretch_value};
+ghost use Rattle.bgp_check_capture_tool.specs.StretchEnd.{view_value};
 
 use crate::judging::options_of;
 use crate::naming::{endpoint_of, name_of};
@@ -18,7 +19,7 @@ use crate::places::{numbers_of, place_in};
 use crate::telling::Telling;
 use crate::told_end::{ToldEnd, told_end};
 use bgp_check::{Answer, StretchTold, check_stretch};
-use bgp_check_text::{EndName, JudgeOptions, Reason, highest_state, is_no_yes, reason_of};
+use bgp_check_text::{EndName, JudgeOptions, Reached, Reason, is_no_yes, reached_by, reason_of};
 use bgp_explain::Places;
 use bgp_judge::Tracker;
 use bgp_list::first_second;
@@ -48,8 +49,8 @@ pub(crate) struct StretchEnd<'a, A: Allocator> {
     pub(crate) name: EndName,
     /// What is answered of it.
     pub(crate) told: StretchTold<'a, A>,
-    /// The number of the highest state that it tells (RFC 6396, 4.4.1).
-    pub(crate) highest: u16,
+    /// How far the session came in it before its end.
+    pub(crate) reached: Reached<A>,
     /// How it ended, if it did.
     pub(crate) ended: Option<ToldEnd<'a>>,
     /// The record at which a no stands, or after which it is unfinished.
@@ -111,6 +112,17 @@ fn reason_for<A: Allocator + Copy, T: Tracker<A>>(
     }
 }
 
+/// Returns a stretch's own records, of those that are judged: all but the one that leaves it.
+fn own_records<'a, 'b>(judged: &'b [Record<'a>], leaving: Option<Record<'a>>) -> &'b [Record<'a>]
+    ensures { map shown_of result.now
+        ≡ own_records (map shown_of judged.now) (option_map shown_of leaving.entry) }
+{
+    match leaving {
+        Some(_) => &judged[..judged.len().saturating_sub(1)],
+        None => judged,
+    }
+}
+
 /// What is told of a stretch of a session, before which so many records stand, and which this one
 /// leaves, if one does. `AllocError` is answered where memory is refused, and then nothing else.
 pub(crate) fn end_of<'a, A: Allocator + Copy, T: Tracker<A>>(
@@ -125,6 +137,7 @@ pub(crate) fn end_of<'a, A: Allocator + Copy, T: Tracker<A>>(
         (map shown_of stretch.now) (option_map shown_of leaving.entry) (stretch_value end)) }
 {
     let told = check_stretch::<A, T>(alloc, &view.session, stretch, leaving)?;
+    let reached = reached_by::<A, T>(alloc, own_records(&told.records, leaving), &told.answer)?;
     let reason = reason_for::<A, T>(alloc, view, before, &told)?;
     let judge = options_of(view, before, leaving, &told);
     let place = place_in(before, &told);
@@ -136,7 +149,7 @@ pub(crate) fn end_of<'a, A: Allocator + Copy, T: Tracker<A>>(
         },
         name: name_of(view.session.local, before, stretch, leaving),
         told,
-        highest: highest_state(stretch),
+        reached,
         ended,
         place,
         reason,

@@ -24,6 +24,8 @@ use Rattle.bgp_check.specs.Answered.{AnswerValue, HasFault, HasItsVerdict, IsAns
 use Rattle.bgp_check.specs.declared.not_judged.NotJudged.{NotJudged}
 use Rattle.bgp_check.specs.declared.peer_as.PeerAs.{PeerAs}
 use Rattle.bgp_ended.specs.Values.{OutlineValue}
+use Rattle.bgp_check.proofs.Under.{has_its_verdict}
+use Rattle.bgp_check_text.specs.Reached.{AreBeforeTo, ReachedValue}
 use Rattle.bgp_check_text.specs.Text.{no_line, not_judged_line, unfinished_line, yes_line, yes_lines}
 use Rattle.bgp_check_text.specs.declared.end.EndName.{EndName}
 use Rattle.bgp_why.specs.declared.place.Place.{Place}
@@ -92,9 +94,9 @@ unfinished_first : (rest : List ℕ) → first (codes "unfinished" ++ rest) ≡ 
 unfolding first
 unfinished_first rest = refl
 
-yes_line_first : (name : EndName) (peer : PeerAs) (highest : ℕ) (ends : List End) (routes rest : List ℕ) → first ((yes_line name peer highest ends ++ routes) ++ rest) ≡ 121
+yes_line_first : (name : EndName) (peer : PeerAs) (reached : ReachedValue) (ends : List End) (routes rest : List ℕ) → first ((yes_line name peer reached ends ++ routes) ++ rest) ≡ 121
 unfolding first yes_line
-yes_line_first name peer highest ends routes rest = refl
+yes_line_first name peer reached ends routes rest = refl
 
 unfinished_line_first : (its : Place) (name : EndName) (rest : List ℕ) → first (unfinished_line its name ++ rest) ≡ 117
 unfolding first unfinished_line
@@ -112,7 +114,7 @@ no_by_text : (routes : Bool) (told : EndTold) (answer : AnswerValue) (rest : Lis
 no_by_text routes told (Unjudged why) rest is =
     let differs : 116 ≡ 32 = sym (unjudged_third (name_of told) why) ∙ ap third is ∙ no_third rest in absurd (omega (arith, differs))
 no_by_text routes told (JudgedAs number peer under (Yes ends)) rest is =
-    let differs : 121 ≡ 110 = sym (yes_line_first (name_of told) peer told.highest ends _ _) ∙ ap first is ∙ no_first rest in absurd (omega (arith, differs))
+    let differs : 121 ≡ 110 = sym (yes_line_first (name_of told) peer told.reached ends _ _) ∙ ap first is ∙ no_first rest in absurd (omega (arith, differs))
 no_by_text routes told (JudgedAs number peer under (No count)) rest is = record { number = number; peer = peer; under = under; count = count; is = refl }
 no_by_text routes told (JudgedAs number peer under Unfinished) rest is =
     let differs : 117 ≡ 110 = sym (unfinished_line_first told.place (name_of told) _) ∙ ap first is ∙ no_first rest in absurd (omega (arith, differs))
@@ -145,7 +147,7 @@ unfinished_by_text : (routes : Bool) (told : EndTold) (answer : AnswerValue) (re
 unfinished_by_text routes told (Unjudged why) rest is =
     let differs : 110 ≡ 117 = sym (unjudged_first (name_of told) why) ∙ ap first is ∙ unfinished_first rest in absurd (omega (arith, differs))
 unfinished_by_text routes told (JudgedAs number peer under (Yes ends)) rest is =
-    let differs : 121 ≡ 117 = sym (yes_line_first (name_of told) peer told.highest ends _ _) ∙ ap first is ∙ unfinished_first rest in absurd (omega (arith, differs))
+    let differs : 121 ≡ 117 = sym (yes_line_first (name_of told) peer told.reached ends _ _) ∙ ap first is ∙ unfinished_first rest in absurd (omega (arith, differs))
 unfinished_by_text routes told (JudgedAs number peer under (No count)) rest is =
     let differs : 110 ≡ 117 = sym (no_line_first told.place (name_of told) (deed_by told.deed told.other) _) ∙ ap first is ∙ unfinished_first rest in absurd (omega (arith, differs))
 unfinished_by_text routes told (JudgedAs number peer under Unfinished) rest is = record { number = number; peer = peer; under = under; is = refl }
@@ -156,7 +158,7 @@ no_lines : EndTold → Place → Endpoint → List ℕ
 no_lines told its end = no_line its (name_with end told.as_number) (deed_by told.deed told.other) ++ after_no told
 
 yes_text : Bool → EndTold → Endpoint → PeerAs → List End → List ℕ
-yes_text routes told end peer ends = yes_lines routes (name_with end told.as_number) peer told.highest ends ++ after_yes told
+yes_text routes told end peer ends = yes_lines routes (name_with end told.as_number) peer told.reached ends ++ after_yes told
 
 unfinished_lines : EndTold → Place → Endpoint → List ℕ
 unfinished_lines told its end = unfinished_line its (name_with end told.as_number) ++ after_unfinished told
@@ -410,6 +412,10 @@ module _ (options : CheckOptions) (packets : List Recorded) (last_packet place :
         has_own = answer.has_own;
         some = over.0;
         lists = over.1;
+        under = yes.under;
+        holds = (has_its_verdict its records yes.number yes.peer yes.under (Yes yes.ends) answer).0;
+        are_before = subst (λ (a : AnswerValue). AreBeforeTo records a told.reached.before) yes.is end.is_reached.are_before;
+        are_counts = end.is_reached.are_counts;
       }
 
   -- ---- what is unfinished
@@ -590,6 +596,10 @@ yes_as stopped options packets last_packet session opening side told has begins 
       has_own = it.has_own;
       some = it.some;
       lists = it.lists;
+      under = it.under;
+      holds = it.holds;
+      are_before = it.are_before;
+      are_counts = it.are_counts;
     }
 
 yeses_as : (stopped : Option WhyRefused) (options : CheckOptions) (packets : List Recorded) (last_packet : ℕ) (block : Block)

@@ -17,7 +17,7 @@ use Rattle.bgp_orders.proofs.Entries.{entries_show_the_way}
 use Rattle.bgp_check.specs.Answered.{AnswerValue, IsAnswerTo, JudgedAs, Unjudged}
 use Rattle.bgp_check.specs.Stretch.{IsStretch}
 use Rattle.bgp_check.specs.declared.peer_as.PeerAs.{PeerAs}
-use Rattle.bgp_check_text.specs.Highest.{highest_state}
+use Rattle.bgp_check_text.specs.Reached.{IsReached, ReachedValue}
 use Rattle.bgp_check_text.specs.Reason.{IsReasonTo}
 use Rattle.bgp_explain.specs.Places.{shown_places}
 use Rattle.bgp_import.specs.Captures.{put_off}
@@ -177,6 +177,10 @@ module _ (session : Session) (sent : Limit) (peer : PeerEnd) (records : List Sho
       subst (λ (d : List ℕ). IsReasonTo session sent first true peer places records answer d lines) (sym same_deed)
       (subst (λ (l : List ℕ). IsReasonTo session sent first true peer places records answer deed' l) (sym same_lines) is)
 
+-- how far the session came
+pub reached_so : (records : List ShownRecord) (answer : AnswerValue) (reached reached' : ReachedValue) → reached ≡ reached' → IsReached records answer reached' → IsReached records answer reached
+reached_so records answer reached reached' same is = subst (λ (r : ReachedValue). IsReached records answer r) (sym same) is
+
 -- where the no of the made order stands
 pub made_so : (entries : List Entry) (found found' : Option NoOrder) (answer answer' : AnswerValue) (its : Option Place) → found ≡ found' → answer ≡ answer'
     → its ≡ in_made entries found' answer' → its ≡ in_made entries found answer
@@ -194,11 +198,11 @@ pub told_so : (options : CheckOptions) (asked : Asked) (end : Endpoint) (session
     → IsFoundTo session options.within framings connection its told.found → told.place ≡ place_of its told.found entries
     → IsOther session framings.sent.limit (peer_end session connection) (records_of entries) told.found told.in_made told.other → told.first ≡ second_at entries 0
     → told.put_off ≡ put_off 0 entries → told.within ≡ options.within
-    → IsLate session connection its told.late → told.highest ≡ highest_state (records_of entries)
+    → IsLate session connection its told.late → IsReached (records_of entries) its told.reached
     → IsReasonTo session framings.sent.limit (second_at entries 0) true (peer_end session connection) (shown_places entries) (records_of entries) answer told.deed told.reason
     → told.received ≡ received → told.sent ≡ sent
     → IsTold options asked end session connection told
-told_so options asked end session connection framings entries received sent told answer its same answers are_of is_end is_number is_found is_place is_other is_first is_put_off is_within is_late is_highest explains
+told_so options asked end session connection framings entries received sent told answer its same answers are_of is_end is_number is_found is_place is_other is_first is_put_off is_within is_late is_reached explains
     is_received is_sent =
     record {
       entries = entries;
@@ -217,7 +221,7 @@ told_so options asked end session connection framings entries received sent told
       is_put_off = is_put_off;
       is_within = is_within;
       is_late = subst (λ (a : AnswerValue). IsLate session connection a told.late) (sym same) is_late;
-      is_highest = is_highest;
+      is_reached = subst (λ (a : AnswerValue). IsReached (records_of entries) a told.reached) (sym same) is_reached;
       explains = explains;
       is_received = is_received;
       is_sent = is_sent;

@@ -6,7 +6,7 @@ use Rattle.packets.specs.Packet.{Recorded}
 use Rattle.bgp_prefix.specs.declared.session.Session.{Session}
 use Rattle.bgp_open.specs.declared.config.Config.{Config}
 use Rattle.bgp_machine.specs.Run.{Begins, End}
-use Rattle.bgp_judge.specs.Verdict.{No, Unfinished, VerdictValue, Yes}
+use Rattle.bgp_judge.specs.Verdict.{HasVerdict, No, Unfinished, VerdictValue, Yes}
 use Rattle.segments.specs.declared.found.Addresses.{Addresses}
 use Rattle.streams.specs.Choice.{IsAnswered}
 use Rattle.streams.specs.Connections.{numbered}
@@ -34,6 +34,7 @@ use Rattle.bgp_ended.specs.Offered.{with_both_offers}
 use Rattle.bgp_ended.specs.Values.{OutlineValue}
 use Rattle.bgp_check_text.specs.Tally.{last_text, status_of}
 use Rattle.bgp_check_text.specs.AsNumber.{HasAsNumber}
+use Rattle.bgp_check_text.specs.Reached.{AreBeforeOf, counts_of}
 use Rattle.bgp_check_text.specs.Text.{no_line, unfinished_line, yes_lines}
 use Rattle.bgp_check_text.specs.declared.tally.Tally.{Tally}
 use Rattle.bgp_import.specs.Pairs.{session_of}
@@ -131,8 +132,8 @@ HasRecordsWith Unfinished order options packets last_packet session opening side
 
 -- ---- a verdict
 
--- The verdict on that side's records, in that order, is this one over all configurations under which
--- the OPEN that it sent is its own, where that has no own fault.
+-- The verdict on that side's records, in that order, is this one over all configurations under
+-- which the OPEN that it sent is its own, where that has no own fault.
 pub record HasVerdictOverAll (options : CheckOptions) (packets : List Recorded) (last_packet : ℕ)
     (session : Session) (opening : Opening) (side : Side) (order : Order) (verdict : VerdictValue)
     : Type 0 where
@@ -227,7 +228,8 @@ HasTrueNoes options packets last_packet session opening side told =
 
 -- so it is of both ends of a connection
 abbrev pub NoesAreTrue : CheckOptions → List Recorded → ℕ → Block → Type 0
-NoesAreTrue options packets last_packet (BothEnds session opening outline first second opener other) =
+NoesAreTrue options packets last_packet
+    (BothEnds session opening outline first second opener other) =
     HasTrueNoes options packets last_packet session opening opening.opened_by opener
     × HasTrueNoes options packets last_packet session opening (other_side opening.opened_by) other
 NoesAreTrue options packets last_packet (OneEnd session opening outline first second) = Unit {0}
@@ -239,7 +241,9 @@ NoesAreTrue options packets last_packet (AllRefused addresses refusal) = Unit {0
 -- They name this end, and list these ends of its session: all that a run can have which shows just
 -- these records of it, under a configuration under which the OPEN that the end sent is its own. The
 -- records are those of the made order; or else those of another one that the packets allow, and
--- then a note says so.
+-- then a note says so. After Established they have the counts of routes that stood before, by the
+-- longest front of these records that has an end in Established, under the configuration under
+-- which the verdict is told.
 pub record IsTrueYes (options : CheckOptions) (packets : List Recorded) (last_packet : ℕ)
     (session : Session) (opening : Opening) (side : Side) (told : EndTold) : Type 0 where
   pub entries : List Entry
@@ -251,11 +255,15 @@ pub record IsTrueYes (options : CheckOptions) (packets : List Recorded) (last_pa
   pub ends : List End
   pub named : told_lines options.printing.routes told
       ≡ yes_lines options.printing.routes (name_with (end_of side session opening) number) peer
-      told.highest ends ++ after_yes told
+      told.reached ends ++ after_yes told
   pub own : Option (List ℕ)
   pub has_own : HasOwnOpen (records_of entries) own
   pub some : ends ≢ []
   pub lists : ListsEndsOver (IsOf (session_from side session) own) (records_of entries) ends
+  pub under : Config
+  pub holds : HasVerdict under (records_of entries) (Yes ends)
+  pub are_before : AreBeforeOf under (records_of entries) (Yes ends) told.reached.before
+  pub are_counts : told.reached.counts ≡ counts_of told.reached.before
 
 -- the lines of an end begin so, and are true
 abbrev pub HasTrueYes : CheckOptions → List Recorded → ℕ → Session → Opening → Side → EndTold
@@ -266,7 +274,8 @@ HasTrueYes options packets last_packet session opening side told =
 
 -- so it is of both ends of a connection
 abbrev pub YesesAreTrue : CheckOptions → List Recorded → ℕ → Block → Type 0
-YesesAreTrue options packets last_packet (BothEnds session opening outline first second opener other) =
+YesesAreTrue options packets last_packet
+    (BothEnds session opening outline first second opener other) =
     HasTrueYes options packets last_packet session opening opening.opened_by opener
     × HasTrueYes options packets last_packet session opening (other_side opening.opened_by) other
 YesesAreTrue options packets last_packet (OneEnd session opening outline first second) = Unit {0}
@@ -304,7 +313,8 @@ UnfinishedAreTrue options packets last_packet
     HasTrueUnfinished options packets last_packet session opening opening.opened_by opener
     × HasTrueUnfinished options packets last_packet session opening
     (other_side opening.opened_by) other
-UnfinishedAreTrue options packets last_packet (OneEnd session opening outline first second) = Unit {0}
+UnfinishedAreTrue options packets last_packet (OneEnd session opening outline first second) =
+    Unit {0}
 UnfinishedAreTrue options packets last_packet (Refused session opening refusal) = Unit {0}
 UnfinishedAreTrue options packets last_packet (AllRefused addresses refusal) = Unit {0}
 
@@ -353,7 +363,8 @@ ToldYesesAreTrue =
     → IsToldAt options packets last_packet place block
     → YesesAreTrue options packets last_packet block
 
--- and with `unfinished` only if no run shows just its records, or none shows just those of any order
+-- and with `unfinished` only if no run shows just its records, or none shows just those of any
+-- order
 abbrev pub ToldUnfinishedAreTrue : Type 0
 ToldUnfinishedAreTrue =
     (options : CheckOptions) (last_packet place : ℕ) (packets : List Recorded) (block : Block)
@@ -364,7 +375,8 @@ ToldUnfinishedAreTrue =
 abbrev pub ToldVerdictIsOverAll : Type 0
 ToldVerdictIsOverAll =
     (options : CheckOptions) (last_packet place : ℕ) (packets : List Recorded) (session : Session)
-    (opening : Opening) (outline : OutlineValue) (first second : ℕ) (opener other told : EndTold) (side : Side)
+    (opening : Opening) (outline : OutlineValue) (first second : ℕ)
+    (opener other told : EndTold) (side : Side)
     (number : Option ℕ) (peer : PeerAs) (under : Config) (verdict : VerdictValue)
     → IsToldAt options packets last_packet place
     (BothEnds session opening outline first second opener other)

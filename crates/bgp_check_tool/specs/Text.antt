@@ -127,7 +127,7 @@ after_unfinished told =
 
 abbrev pub verdict_text : Bool → EndTold → PeerAs → VerdictValue → List ℕ
 verdict_text routes told peer (Yes ends) =
-    yes_lines routes (name_of told) peer told.highest ends ++ after_yes told
+    yes_lines routes (name_of told) peer told.reached ends ++ after_yes told
 verdict_text routes told peer (No count) =
     no_line told.place (name_of told) (deed_by told.deed told.other) ++ after_no told
 verdict_text routes told peer Unfinished =

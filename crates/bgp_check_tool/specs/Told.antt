@@ -18,7 +18,7 @@ use Rattle.bgp_check.specs.declared.peer_as.PeerAs.{PeerAs}
 use Rattle.bgp_check_text.specs.AsNumber.{HasAsNumber}
 use Rattle.bgp_check_text.specs.Reason.{IsReasonTo, deed_text, lines_text}
 use Rattle.bgp_explain.specs.Places.{shown_places}
-use Rattle.bgp_check_text.specs.Highest.{highest_state}
+use Rattle.bgp_check_text.specs.Reached.{IsReached, ReachedValue, reached_value}
 use Rattle.bgp_check_tool.specs.declared.ending.Told.{Told}
 use Rattle.bgp_check_text.specs.declared.options.Asked.{Asked}
 use Rattle.bgp_check_text.specs.declared.options.JudgeOptions.{JudgeOptions}
@@ -64,8 +64,8 @@ pub record EndTold : Type 0 where
   pub within : ℕ
   -- what a no or an unfinished becomes, where it may be handled as late as it can be said
   pub late : Option Late
-  -- the number of the highest state that is told
-  pub highest : ℕ
+  -- how far the session came before its end
+  pub reached : ReachedValue
   -- what the impossible record of a no shows was done, and the lines on why it is a no or
   -- unfinished, where it is
   pub deed : List ℕ
@@ -90,7 +90,7 @@ told_value told = record {
   put_off = told.put_off;
   within = told.within;
   late = told.late;
-  highest = told.highest;
+  reached = reached_value told.reached;
   deed = deed_text told.reason;
   reason = lines_text told.reason;
   received = told.received;
@@ -190,7 +190,7 @@ pub record IsTold (options : CheckOptions) (asked : Asked) (end : Endpoint) (ses
   pub is_put_off : told.put_off ≡ put_off 0 entries
   pub is_within : told.within ≡ options.within
   pub is_late : IsLate session connection told.answer told.late
-  pub is_highest : told.highest ≡ highest_state (records_of entries)
+  pub is_reached : IsReached (records_of entries) told.answer told.reached
   pub explains : IsReasonTo session framings.sent.limit (second_at entries 0) true
       (peer_end session connection) (shown_places entries) (records_of entries) answer told.deed
       told.reason

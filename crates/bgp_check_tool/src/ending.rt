@@ -11,7 +11,7 @@ ghost use Rattle.bgp_import.specs.Captures.{put_off};
 ghost use Rattle.bgp_recording.specs.Captured.{records_of};
 ghost use Rattle.bgp_recording.specs.Gathered.{IsClocked, IsCovered};
 ghost use Rattle.bgp_recording.specs.Recorded.{IsRecordedInOrder};
-ghost use Rattle.bgp_check_text.specs.Highest.{highest_state};
+ghost use Rattle.bgp_check_text.specs.Reached.{IsReached, reached_value};
 ghost use Rattle.bgp_check_tool.specs.declared.another.Order.TheVariants.{Made as OfMade};
 ghost use Rattle.bgp_check_tool.specs.Another.{number_in};
 ghost use Rattle.bgp_check_tool.specs.Elsewhere.{IsOther, in_made, no_place, octets_if};
@@ -30,7 +30,7 @@ use crate::options::CheckOptions;
 use crate::orders::{NoOrder, Under};
 use crate::place::{last_place, place_at, second_at, sent_place};
 use bgp_check::{Answer, Judged, check_end};
-use bgp_check_text::{Asked, JudgeOptions, Reason, highest_state, reason_of, sent_as_number};
+use bgp_check_text::{Asked, JudgeOptions, Reached, Reason, reached_by, reason_of, sent_as_number};
 use bgp_explain::Places;
 use bgp_import::notes_on;
 use bgp_judge::{Tracker, Verdict};
@@ -83,8 +83,8 @@ pub(crate) struct Told<'a, A: Allocator> {
     pub(crate) within: u16,
     /// What a no or an unfinished becomes, where it may be handled as late as it can be said.
     pub(crate) late: Option<Late>,
-    /// The number of the highest state that the records tell (RFC 6396, 4.4.1).
-    pub(crate) highest: u16,
+    /// How far the session came before its end.
+    pub(crate) reached: Reached<A>,
     /// Why the verdict is a no or unfinished, where it is.
     pub(crate) reason: Reason<A>,
     /// What of the octets that it received is in no record, and of those that it sent.
@@ -229,11 +229,13 @@ fn reason_on<A: Allocator + Copy, T: Tracker<A>>(
     Ok(reason)
 }
 
-/// What is told of an end with this answer, of these records, for this reason.
+/// What is told of an end with this answer, of these records, for this reason; its session came so
+/// far.
 fn told_of<'a, A: Allocator + Copy>(
     viewed: &Viewed<'_>,
     recording: &Recording<'_, A>,
     answer: Answer<A>,
+    reached: Reached<A>,
     reason: Reason<A>,
     beside: Beside<'a, A>,
 ) -> Told<'a, A>
@@ -247,8 +249,7 @@ fn told_of<'a, A: Allocator + Copy>(
     ensures first { result.first ≡ second_at recording.now.entries.items 0 }
     ensures put_off { result.put_off ≡ put_off 0 recording.now.entries.items }
     ensures within { result.within ≡ viewed.now.options.within }
-    ensures highest { result.highest
-        ≡ highest_state (records_of recording.now.entries.items) }
+    ensures reached { reached_value result.reached ≡ reached_value reached }
     ensures reason { (deed_text result.reason ≡ deed_text reason)
         × (lines_text result.reason ≡ lines_text reason) }
     ensures unshown { (result.received ≡ recording.now.received)
@@ -271,7 +272,7 @@ fn told_of<'a, A: Allocator + Copy>(
         put_off: notes_on(recording).put_off,
         within: viewed.options.within,
         late: beside.late,
-        highest: highest_state(&recording.records),
+        reached,
         reason,
         received: recording.received,
         sent: recording.sent,
@@ -287,6 +288,20 @@ fn number_in<A: Allocator>(answer: &Answer<A>) -> Option<u32>
         Answer::NotJudged(_) => None,
         Answer::Judged(judged) => judged.as_number,
     }
+}
+
+/// How far the session came of whose records this is answered.
+fn reached_on<A: Allocator + Copy, T: Tracker<A>>(
+    alloc: A,
+    recording: &Recording<'_, A>,
+    answer: &Answer<A>,
+) -> Result<Reached<A>, AllocError>
+    requires { map shown_of recording.now.records.items
+        ≡ records_of recording.now.entries.items }
+    ensures { IfOk result (λ reached. IsReached (records_of recording.now.entries.items)
+        (answer_value answer.now) (reached_value reached)) }
+{
+    reached_by::<A, T>(alloc, recording.records.as_slice(), answer)
 }
 
 /// That an end with this AS number is unfinished, under this configuration.
@@ -325,28 +340,32 @@ pub(crate) fn told_by<'a, A: Allocator + Copy, T: Tracker<A>>(
     let answer = check_end::<A, T>(alloc, &viewed.session, records)?;
     match search_orders::<A, T>(alloc, viewed, framings, &answer) {
         Searched::Nothing => {
+            let reached = reached_on::<A, T>(alloc, recording, &answer)?;
             let reason = reason_on::<A, T>(alloc, viewed, framings, recording, &answer)?;
             let beside = Beside::of_made::<T>(alloc, viewed, made, &answer, None)?;
-            Ok(told_of(viewed, recording, answer, reason, beside))
+            Ok(told_of(viewed, recording, answer, reached, reason, beside))
         }
         Searched::NoOrder(found) => {
+            let reached = reached_on::<A, T>(alloc, recording, &answer)?;
             let reason = reason_on::<A, T>(alloc, viewed, framings, recording, &answer)?;
             let beside = Beside::of_made::<T>(alloc, viewed, made, &answer, Some(found))?;
-            Ok(told_of(viewed, recording, answer, reason, beside))
+            Ok(told_of(viewed, recording, answer, reached, reason, beside))
         }
         Searched::Unfinished(its) => {
             let reason = reason_on::<A, T>(alloc, viewed, framings, recording, &answer)?;
             let in_made = no_place(entries, &answer);
             let answer = unfinished(number_in(&answer), its);
+            let reached = reached_on::<A, T>(alloc, recording, &answer)?;
             let late = late_of::<A, T>(alloc, viewed, &answer)?;
             let beside = Beside::of_others(Order::All, in_made, late);
-            Ok(told_of(viewed, recording, answer, reason, beside))
+            Ok(told_of(viewed, recording, answer, reached, reason, beside))
         }
         Searched::Another(another) => {
             let AnotherOrder { recording, answer } = another;
+            let reached = reached_on::<A, T>(alloc, &recording, &answer)?;
             let reason = reason_on::<A, T>(alloc, viewed, framings, &recording, &answer)?;
             let beside = Beside::of_others(Order::Another, None, None);
-            Ok(told_of(viewed, &recording, answer, reason, beside))
+            Ok(told_of(viewed, &recording, answer, reached, reason, beside))
         }
     }
 }

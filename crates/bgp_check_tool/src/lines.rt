@@ -219,8 +219,8 @@ fn put_verdict<W: Sink, A: Allocator>(
     let name = name_of(told);
     match &judged.verdict {
         Verdict::Yes(endings) => {
-            let (peer, highest) = (judged.peer_as, told.highest);
-            put_yes(lines, &name, peer, endings.as_slice(), highest, routes);
+            let (peer, endings) = (judged.peer_as, endings.as_slice());
+            put_yes(lines, &name, peer, endings, &told.reached, routes);
             put_after_yes(lines, told);
         }
         Verdict::No(_) => {

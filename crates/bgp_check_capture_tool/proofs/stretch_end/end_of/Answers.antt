@@ -31,3 +31,14 @@ place_in-place-requires g c =
       last = few_at_last (λ place. c.args.before + place < MAX) c.args.view.now.session stretch leaving told is each;
       impossible = few_at_no (λ place. c.args.before + place < MAX) c.args.view.now.session stretch leaving told is each;
     }
+
+pub reason_for-requires-clause-told : goal.reason_for-requires-clause-told
+reason_for-requires-clause-told g c =
+    let stretch = map shown_of c.args.stretch.now in
+    let leaving = option_map shown_of c.args.leaving in
+    let told = told_value c.in_ok-told.told in
+    let len = length-map c.args.stretch.now shown_of in (
+      stretch,
+      leaving,
+      subst (λ (n : ℕ). IsStretchTold c.args.view.now.session stretch n leaving told) (sym len) c.in_ok-told.ensures,
+    )

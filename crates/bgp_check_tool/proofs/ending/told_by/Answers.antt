@@ -6,6 +6,7 @@ use Rattle.bgp_recording.specs.declared.entry.Entry.{Entry}
 use Rattle.bgp_judge.specs.Verdict.{Unfinished}
 use Rattle.bgp_explain.specs.Places.{shown_places}
 use Rattle.bgp_check.specs.Answered.{AnswerValue, IsAnswerTo, JudgedAs, answer_value}
+use Rattle.bgp_check_text.specs.Reached.{reached_value}
 use Rattle.bgp_check_text.specs.declared.options.JudgeOptions.{JudgeOptions}
 use Rattle.bgp_check_tool.specs.declared.late.Late.{Late}
 use Rattle.bgp_check_tool.specs.declared.orders.NoOrder.{NoOrder}
@@ -15,7 +16,7 @@ use Rattle.bgp_check_tool.specs.Judging.{AreOptionsTo}
 use Rattle.bgp_check_tool.specs.Late.{IsLate}
 use Rattle.bgp_check_tool.specs.Place.{second_at}
 use Rattle.bgp_check_tool.specs.Told.{peer_end, place_of, told_value}
-use Rattle.bgp_check_tool.proofs.TellingEnd.{made_so, message_found, nothing_found, nothing_other, other_so, reason_so, told_so, yes_not_late}
+use Rattle.bgp_check_tool.proofs.TellingEnd.{made_so, message_found, nothing_found, nothing_other, other_so, reached_so, reason_so, told_so, yes_not_late}
 use Rattle.bgp_check_tool.proofs.ending.told_by.Goals as goal
 
 pub returns-in-Nothing : goal.returns-in-Nothing
@@ -47,7 +48,7 @@ returns-in-Nothing g c = λ clocked made.
     (is.place ∙ ap (λ (f : Option NoOrder). place_of answer f entries) (sym is.beside.1))
     (other_so viewed.session framings.sent.limit peer records told.found _ told.in_made _ told.other _ is.beside.1 is.beside.2 is.beside.3 beside.other)
     is.first is.put_off is.within
-    (subst (λ (l : Option Late). IsLate viewed.session viewed.connection answer l) (sym is.beside.4) (beside.late clocked)) is.highest
+    (subst (λ (l : Option Late). IsLate viewed.session viewed.connection answer l) (sym is.beside.4) (beside.late clocked)) (reached_so records answer told.reached (reached_value c.in_ok-reached-in-Nothing.reached) is.reached c.in_ok-reached-in-Nothing.ensures)
     (reason_so viewed.session framings.sent.limit peer records (second_at entries 0) (shown_places entries) answer told.deed _ told.reason _ is.reason.0 is.reason.1 c.in_ok-reason-in-Nothing.ensures)
     is.unshown.0 is.unshown.1
 
@@ -80,7 +81,7 @@ returns-in-NoOrder g c = λ clocked made.
     (is.place ∙ ap (λ (f : Option NoOrder). place_of answer f entries) (sym is.beside.1))
     (other_so viewed.session framings.sent.limit peer records told.found _ told.in_made _ told.other _ is.beside.1 is.beside.2 is.beside.3 beside.other)
     is.first is.put_off is.within
-    (subst (λ (l : Option Late). IsLate viewed.session viewed.connection answer l) (sym is.beside.4) (beside.late clocked)) is.highest
+    (subst (λ (l : Option Late). IsLate viewed.session viewed.connection answer l) (sym is.beside.4) (beside.late clocked)) (reached_so records answer told.reached (reached_value c.in_ok-reached-in-NoOrder.reached) is.reached c.in_ok-reached-in-NoOrder.ensures)
     (reason_so viewed.session framings.sent.limit peer records (second_at entries 0) (shown_places entries) answer told.deed _ told.reason _ is.reason.0 is.reason.1 c.in_ok-reason-in-NoOrder.ensures)
     is.unshown.0 is.unshown.1
 
@@ -122,7 +123,7 @@ returns-in-Unfinished g c = λ clocked made.
     (nothing_other viewed.session framings.sent.limit peer records told.found told.in_made told.other nothing (is.beside.3 ∙ beside.other))
     is.first is.put_off is.within
     (subst (λ (l : Option Late). IsLate viewed.session viewed.connection (answer_value c.unfinished-answer.result) l) (sym (is.beside.4 ∙ beside.late)) (c.in_ok-late-in-Unfinished.ensures clocked))
-    is.highest
+    (reached_so records (answer_value c.unfinished-answer.result) told.reached (reached_value c.in_ok-reached-in-Unfinished.reached) is.reached c.in_ok-reached-in-Unfinished.ensures)
     (reason_so viewed.session framings.sent.limit peer records (second_at entries 0) (shown_places entries) answer told.deed _ told.reason _ is.reason.0 is.reason.1 c.in_ok-reason-in-Unfinished.ensures)
     is.unshown.0 is.unshown.1
 
@@ -164,6 +165,6 @@ returns g c = λ clocked made.
     (is.place ∙ ap (λ (f : Option NoOrder). place_of answer f entries) (sym is.beside.1))
     (nothing_other viewed.session framings.sent.limit peer records told.found told.in_made told.other nothing (is.beside.3 ∙ beside.other))
     is.first is.put_off is.within
-    (yes_not_late viewed.session options.within framings viewed.connection answer told.late sought.3 (is.beside.4 ∙ beside.late)) is.highest
+    (yes_not_late viewed.session options.within framings viewed.connection answer told.late sought.3 (is.beside.4 ∙ beside.late)) (reached_so records answer told.reached (reached_value c.in_ok-reached-in-Another.reached) is.reached c.in_ok-reached-in-Another.ensures)
     (reason_so viewed.session framings.sent.limit peer records (second_at entries 0) (shown_places entries) answer told.deed _ told.reason _ is.reason.0 is.reason.1 c.in_ok-reason-in-Another.ensures)
     is.unshown.0 is.unshown.1

@@ -8,7 +8,7 @@ pub returns-in-Yes : goal.returns-in-Yes
 returns-in-Yes g c =
     let law : Joins g.W.Sink = record { joined = g.met.W.Sink.joined } in
     let named = rw c.name_of-name.ensures at c.put_yes.ensures in
-    let endings = rw c.as_slice.ensures.value at named in
+    let endings = rw c.as_slice-endings.ensures.value at named in
     rw c.in-Yes.is (and_then law endings c.put_after_yes.ensures)
 
 pub returns-in-No : goal.returns-in-No
