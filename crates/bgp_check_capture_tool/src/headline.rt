@@ -27,8 +27,9 @@ use std::alloc::Allocator;
 ///
 /// It writes a line for each session, in the order of their first records, and after it what is
 /// told of each of its stretches: the verdict, for which AS number of its peer it is told, of a yes
-/// each possible end, of a no and an unfinished why it is so, and, of one that is all of its
-/// session, with which options `bgp judge` gives it; or why it isn't judged. After them stands why
+/// each possible end and the routes that stood before it left Established, of a no and an
+/// unfinished why it is so, and, of one that is all of its session, with which options `bgp judge`
+/// gives it; or why it isn't judged. After them stands why
 /// the session's next record is refused, if one is, and after all sessions why the file can't be
 /// read on, if it can't; last how many ends there are of each verdict. If only what isn't well is
 /// printed (`quiet`), it leaves out the ends that are a yes or not judged, the line of a session of

@@ -30,8 +30,11 @@ use std::alloc::Allocator;
 ///
 /// If they begin with `yes`, some run under such a configuration shows just the end's records in
 /// one of these orders. Each state in which such a run can end is listed, and no other. It is the
-/// order that `bgp import` makes, or another one, and then a note says so. That is the clause
-/// `yes`. If they begin with `unfinished after packet P`, packet P shows the last record, no run
+/// order that `bgp import` makes, or another one, and then a note says so. The routes *before that*
+/// of a session that left Established are those of all ends of the longest front of these records
+/// that has one in Established. That is the clause `yes`.
+///
+/// If they begin with `unfinished after packet P`, packet P shows the last record, no run
 /// under such a configuration shows just the end's records in the order that is made, and some run
 /// shows more. Or no run shows just those of any order that the packets allow, and in one of them
 /// some run explains all that the end sent: then a note says so. That is the clause `unfinished`.
