@@ -40,7 +40,7 @@ use Rattle.bgp_check_text.specs.declared.end.EndName.{EndName}
 use Rattle.bgp_check_capture_tool.specs.Checking.{Block, IsBlock}
 use Rattle.bgp_check_capture_tool.specs.Ends.{End, IsSessionTold, Silent, Staying, Stretch, session_of}
 use Rattle.bgp_check_capture_tool.specs.Naming.{endpoint_of}
-use Rattle.bgp_check_capture_tool.specs.Places.{place_after, place_to, second_at}
+use Rattle.bgp_check_capture_tool.specs.Places.{micro_after, place_after, place_in, place_to, second_at}
 use Rattle.bgp_check_capture_tool.specs.Printed.{BeginsWithNo, HasVerdictBy, IsTrueIfNo, IsTrueNo, NoesAreTrue, ReadStretch, ToldVerdictIsOverAll, judged_of}
 use Rattle.bgp_check_capture_tool.specs.StretchEnd.{StretchEnd}
 use Rattle.bgp_check_capture_tool.specs.Stretches.{first_of}
@@ -102,16 +102,16 @@ no_by_text routes end (JudgedAs number peer under Unfinished) rest is =
 -- ---- the record that is named
 
 -- the text of a no begins with the number of its record, and its time, and then the local system
-record Names (text : List ℕ) (number second : ℕ) (local : Address) : Type 0 where
+record Names (text : List ℕ) (number second : ℕ) (micro : Option ℕ) (local : Address) : Type 0 where
   pub rest : List ℕ
-  pub is : text ≡ codes "no at record " ++ (decimal number ++ (codes ", " ++ (when_text second None ++ (codes " UTC: " ++ (address_text local ++ rest)))))
+  pub is : text ≡ codes "no at record " ++ (decimal number ++ (codes ", " ++ (when_text second micro ++ (codes " UTC: " ++ (address_text local ++ rest)))))
 
-names : (name : EndName) (local : Address) (before second : ℕ) (deed more : List ℕ) → name.end ≡ endpoint_of local
-    → Names (no_line (place_after before second) name deed ++ more) (before + 1) second local
+names : (named : List Located) (name : EndName) (local : Address) (before second : ℕ) (deed more : List ℕ) → name.end ≡ endpoint_of local
+    → Names (no_line (place_after named before second) name deed ++ more) (before + 1) second (micro_after named before) local
 unfolding no_line place_when name_text
-names name local before second deed more is_end =
+names named name local before second deed more is_end =
     let number = decimal (before + 1) in
-    let when = when_text second None in
+    let when = when_text second (micro_after named before) in
     let its = endpoint_text name.end in
     let about = codes " (" ++ (as_text name.as_number ++ (part_by name.part ++ codes ")")) in
     let tail = deed_if deed ++ codes "\n" in
@@ -127,13 +127,14 @@ names name local before second deed more is_end =
           ∙ ap (λ (text : List ℕ). number ++ (codes ", " ++ text)) (append_assoc when (codes " UTC: ") (behind ++ more) ∙ ap (λ (text : List ℕ). when ++ (codes " UTC: " ++ text)) ending));
     }
 
-told_names : (routes : Bool) (local : Address) (end : StretchEnd) (number : Option ℕ) (peer : PeerAs) (under : Config) (count before second : ℕ)
-    → end.told.answer ≡ JudgedAs number peer under (No count) → end.place ≡ place_after before second → end.name.end ≡ endpoint_of local
-    → Names (end_text routes local (Stretch end)) (before + 1) second local
-told_names routes local end number peer under count before second is is_place is_end =
-    subst (λ (a : AnswerValue). Names (answer_text routes end a) (before + 1) second local) (sym is)
-    (subst (λ (p : Place). Names (no_line p end.name end.deed ++ (end.reason ++ notes_text end)) (before + 1) second local) (sym is_place)
-    (names end.name local before second end.deed (end.reason ++ notes_text end) is_end))
+told_names : (named : List Located) (routes : Bool) (local : Address) (end : StretchEnd) (number : Option ℕ) (peer : PeerAs) (under : Config) (count before second : ℕ)
+    → end.told.answer ≡ JudgedAs number peer under (No count) → end.place ≡ place_after named before second → end.name.end ≡ endpoint_of local
+    → Names (end_text routes local (Stretch end)) (before + 1) second (micro_after named before) local
+told_names named routes local end number peer under count before second is is_place is_end =
+    let micro = micro_after named before in
+    subst (λ (a : AnswerValue). Names (answer_text routes end a) (before + 1) second micro local) (sym is)
+    (subst (λ (p : Place). Names (no_line p end.name end.deed ++ (end.reason ++ notes_text end)) (before + 1) second micro local) (sym is_place)
+    (names named end.name local before second end.deed (end.reason ++ notes_text end) is_end))
 
 -- where it stands
 behind_front : (front rest : List ShownRecord) (place : ℕ) (shown : ShownRecord) → slice_get rest place ≡ Some shown → slice_get (front ++ rest) (length front + place) ≡ Some shown
@@ -188,14 +189,14 @@ module _ (addresses : Addresses) (named : List Located) (plain : Bool) (end : St
       let answer = subst (λ (s : Session). IsJudged s judged no.number no.peer no.under (No no.count)) f.is_session there in
       let stretch = are_stretches f.view.session f.stretch (length f.stretch) leaving end.told is f.stretched (left_so f.behind f.next) in
       let it = names_it f.view.session f.stretch leaving end.told no.number no.peer no.under no.count is no.is in
-      let place : end.place ≡ place_after (length f.front + it.place) (second_of it.shown) =
-      f.is.is_place ∙ ap (place_to (length f.front) end.told) no.is
-      ∙ ap (λ (o : Option ℕ). place_after (length f.front + unwrap_or o 0) (second_at end.told.records no.count)) it.is_named
-      ∙ ap (λ (o : Option ShownRecord). place_after (length f.front + it.place) (unwrap_or (option_map second_of o) 0)) it.is_judged in
+      let place : end.place ≡ place_after named (length f.front + it.place) (second_of it.shown) =
+      f.is.is_place ∙ ap (λ (ls : List Located). place_in ls (length f.front) end.told) f.is_named ∙ ap (place_to named (length f.front) end.told) no.is
+      ∙ ap (λ (o : Option ℕ). place_after named (length f.front + unwrap_or o 0) (second_at end.told.records no.count)) it.is_named
+      ∙ ap (λ (o : Option ShownRecord). place_after named (length f.front + it.place) (unwrap_or (option_map second_of o) 0)) it.is_judged in
       let found : it.place ≡ slice_index_or is.left.places no.count (length f.stretch) =
       ap (λ (o : Option ℕ). unwrap_or o 0) (sym it.is_named ∙ is.is_place ∙ ap (λ (a : AnswerValue). place_of a is.left.places (length f.stretch)) answered) in
       let its_end = f.is.is_name.is_end ∙ ap (λ (session : Session). endpoint_of session.local) f.is_session in
-      let names = told_names routes addresses.local end no.number no.peer no.under no.count (length f.front + it.place) (second_of it.shown) no.is place its_end in
+      let names = told_names named routes addresses.local end no.number no.peer no.under no.count (length f.front + it.place) (second_of it.shown) no.is place its_end in
       record {
         it = its_stretch;
         is_part = f.is.is_part;

@@ -40,6 +40,7 @@ use Rattle.bgp_check_capture_tool.specs.Checking.{Block, IsBlock, blocks_text, n
 use Rattle.bgp_check_capture_tool.specs.Checking.{telling_of}
 use Rattle.bgp_check_capture_tool.specs.Ends.{End, Silent, Staying, Stretch, session_of}
 use Rattle.bgp_check_capture_tool.specs.Headline.{IsToldAmong}
+use Rattle.bgp_check_capture_tool.specs.Places.{micro_after}
 use Rattle.bgp_check_capture_tool.specs.StretchEnd.{StretchEnd}
 use Rattle.bgp_check_capture_tool.specs.Stretches.{first_of}
 use Rattle.bgp_check_capture_tool.specs.Text.{end_text}
@@ -88,7 +89,7 @@ abbrev pub BeginsWithNo : Bool → Addresses → StretchEnd → Type 0
 BeginsWithNo routes addresses end =
     (rest : List ℕ) × (end_text routes addresses.local (Stretch end) ≡ codes "no " ++ rest)
 
--- They name a record of the session, and its time: of those that are judged in this stretch of it,
+-- They name a record of the session, and its time with its fraction: of those that are judged in this stretch of it,
 -- the one after so many, at its place among all that the session has. No run under a
 -- configuration under which the OPEN that was sent is the local system's own shows what is judged
 -- up to that record; nor all of it. Some run under one of these configurations shows what is judged
@@ -108,7 +109,7 @@ pub record IsTrueNo (routes : Bool) (addresses : Addresses) (named : List Locate
   pub rest : List ℕ
   pub is_named : end_text routes addresses.local (Stretch end)
       ≡ codes "no at record " ++ (decimal (place + 1) ++ (codes ", "
-      ++ (when_text (second_of impossible) None ++ (codes " UTC: "
+      ++ (when_text (second_of impossible) (micro_after named place) ++ (codes " UTC: "
       ++ (address_text addresses.local ++ rest)))))
   pub none : (own : Option (List ℕ)) (config : Config) → HasOwnOpen (judged_of it) own
       → IsOf (session_of addresses) own config

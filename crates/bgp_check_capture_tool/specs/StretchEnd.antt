@@ -88,8 +88,9 @@ view_value view = record {
 abbrev pub IsReasonFor : View → ℕ → ToldValue → List ℕ → List ℕ → Type 0
 IsReasonFor view before told deed lines =
     IsReasonTo view.session (limit_with told.extended) (first_second view.named) false
-    (endpoint_of view.session.peer) (numbered_places (numbers_of before told.places)) told.records
-    told.answer deed lines
+    (endpoint_of view.session.peer)
+    (numbered_places (numbers_of view.named before told.places)) told.records told.answer deed
+    lines
 
 -- the stretch's own records, of those that are judged: all but the one that leaves it
 abbrev pub own_records : List ShownRecord → Option ShownRecord → List ShownRecord
@@ -104,7 +105,7 @@ pub record IsStretchEnd (view : View) (before : ℕ) (stretch : List ShownRecord
   pub is_name : IsNameOf view.session.local before stretch leaving end.name
   pub is_told : IsStretchTold view.session stretch (length stretch) leaving end.told
   pub is_reached : IsReached (own_records end.told.records leaving) end.told.answer end.reached
-  pub tells_end : IsEndTold (first_second view.named) view.session before stretch end.ended
-  pub is_place : end.place ≡ place_in before end.told
+  pub tells_end : IsEndTold view.named view.session before stretch end.ended
+  pub is_place : end.place ≡ place_in view.named before end.told
   pub explains : IsReasonFor view before end.told end.deed end.reason
   pub judges : AreOptionsOf view.telling view.named end.told before leaving end.judge

@@ -9,17 +9,21 @@ use Rattle.streams.specs.declared.passed.Side.TheVariants.{Local, Peer}
 use Rattle.bgp_prefix.specs.Shown.{ShownRecord}
 use Rattle.bgp_prefix.specs.declared.address.Address.{Address}
 use Rattle.bgp_prefix.specs.declared.session.Session.{Session}
+use Rattle.mrt_sessions.specs.File.{Located}
 use Rattle.bgp_why.specs.declared.endpoint.Endpoint.{Endpoint}
 use Rattle.bgp_ended.specs.EndedLine.{ended_stretch_line}
 use Rattle.bgp_ended.specs.Stretch.{EndedStretchValue, IsEndOf, ended_stretch_value}
+use Rattle.bgp_list.specs.Sessions.{first_second}
 use Rattle.bgp_check_capture_tool.specs.Naming.{endpoint_of}
+use Rattle.bgp_check_capture_tool.specs.Places.{micro_after}
 use Rattle.bgp_check_capture_tool.specs.declared.told_end.ToldEnd.{ToldEnd}
 
 -- The second of the session's first record, the number in the session of the record that shows the
--- end, who ended the stretch, and how.
+-- end, the fraction of its second, who ended the stretch, and how.
 pub record ToldEndValue : Type 0 where
   pub first : ℕ
   pub number : ℕ
+  pub micro : Option ℕ
   pub by : Endpoint
   pub ended : EndedStretchValue
 
@@ -27,6 +31,7 @@ abbrev pub told_end_value : ToldEnd → ToldEndValue
 told_end_value told = record {
   first = told.first;
   number = told.number;
+  micro = told.micro;
   by = told.by;
   ended = ended_stretch_value told.ended;
 }
@@ -36,21 +41,23 @@ abbrev pub address_of : Side → Session → Address
 address_of Local session = session.local
 address_of Peer session = session.peer
 
--- of a stretch of this session before which so many records stand
-abbrev pub told_end : ℕ → Session → ℕ → EndedStretchValue → ToldEndValue
-told_end first session before ended = record {
-  first = first;
+-- of a stretch of this session, which has these records in the file, and before which so many of
+-- them stand
+abbrev pub told_end : List Located → Session → ℕ → EndedStretchValue → ToldEndValue
+told_end named session before ended = record {
+  first = first_second named;
   number = before + ended.before + 1;
+  micro = micro_after named (before + ended.before);
   by = endpoint_of (address_of ended.by session);
   ended = ended;
 }
 
 -- this is told of these records of it
-pub record IsEndTold (first : ℕ) (session : Session) (before : ℕ) (stretch : List ShownRecord)
-    (told : Option ToldEndValue) : Type 0 where
+pub record IsEndTold (named : List Located) (session : Session) (before : ℕ)
+    (stretch : List ShownRecord) (told : Option ToldEndValue) : Type 0 where
   pub ended : Option EndedStretchValue
   pub is_end : IsEndOf stretch ended
-  pub is : told ≡ option_map (told_end first session before) ended
+  pub is : told ≡ option_map (told_end named session before) ended
 
 -- the state is Idle
 abbrev pub is_idle : Fsm → Bool
@@ -71,4 +78,5 @@ open_line false = codes "  open at the end of the file\n"
 -- the line: it ended, or it is open
 abbrev pub told_end_line : Bool → Option ToldEndValue → List ℕ
 told_end_line over None = open_line over
-told_end_line over (Some told) = ended_stretch_line told.first told.number told.by told.ended
+told_end_line over (Some told) =
+    ended_stretch_line told.first told.number told.micro told.by told.ended

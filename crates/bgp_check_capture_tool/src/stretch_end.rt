@@ -75,7 +75,7 @@ fn explained<A: Allocator + Copy, T: Tracker<A>>(
     ensures { IfOk result (λ reason. IsReasonFor (view_value view.now) before
         (told_value told.now) (deed_text reason) (lines_text reason)) }
 {
-    let numbers = numbers_of(alloc, before, &told.places)?;
+    let numbers = numbers_of(alloc, view.named, before, &told.places)?;
     let places = Places::Numbered(&numbers);
     let sent = Limit::with_extended(told.extended);
     let first = first_second(view.named);
@@ -140,8 +140,8 @@ pub(crate) fn end_of<'a, A: Allocator + Copy, T: Tracker<A>>(
     let reached = reached_by::<A, T>(alloc, own_records(&told.records, leaving), &told.answer)?;
     let reason = reason_for::<A, T>(alloc, view, before, &told)?;
     let judge = options_of(view, before, leaving, &told);
-    let place = place_in(before, &told);
-    let ended = told_end(&view.session, first_second(view.named), before, stretch);
+    let place = place_in(view.named, before, &told);
+    let ended = told_end(&view.session, view.named, before, stretch);
     Ok(StretchEnd {
         part: Part {
             before,

@@ -3,18 +3,22 @@
 ghost use Rattle.std.specs.Prelude.{◌≡◌, ◌+◌, ◌<◌, length, map, option_map};
 ghost use Rattle.bgp_judge.specs.Ends.{end_value};
 ghost use Rattle.mrt.specs.Reader.{shown_of};
+ghost use Rattle.mrt_sessions.specs.Located.{located};
 ghost use Rattle.bgp_text.specs.Lines.{Writes};
 ghost use Rattle.bgp_check_capture_tool.specs.ToldEnd.{IsEndTold, address_of, is_over};
 ghost use Rattle.bgp_check_capture_tool.specs.ToldEnd.{open_line, told_end_line, told_end_value};
 
 use crate::naming::endpoint_of;
+use crate::places::micro_after;
 use bgp_ended::{EndedStretch, ended_in, put_ended_stretch};
 use bgp_judge::End;
+use bgp_list::first_second;
 use bgp_machine::Fsm;
 use bgp_prefix::{Address, Seconds, Session};
 use bgp_text::Lines;
 use bgp_why::Endpoint;
 use mrt::{Record, Sink};
+use mrt_sessions::NamedRecord;
 use std::alloc::Allocator;
 use streams::Side;
 
@@ -25,6 +29,8 @@ pub(crate) struct ToldEnd<'a> {
     pub(crate) first: Seconds,
     /// The number in the session of the record that shows it.
     pub(crate) number: u64,
+    /// The fraction of that record's second, if it has one.
+    pub(crate) micro: Option<u32>,
     /// Who ended the stretch.
     pub(crate) by: Endpoint,
     /// How.
@@ -41,22 +47,23 @@ fn address_of(side: Side, session: &Session) -> Address
     }
 }
 
-/// How a stretch of a session, whose first record has this second, ended, if it did: so many of the
-/// session's records stand before it.
+/// How a stretch of a session, which has these records in the file, ended, if it did: so many of
+/// them stand before it.
 pub(crate) fn told_end<'a>(
     session: &Session,
-    first: Seconds,
+    named: &[NamedRecord<'_>],
     before: usize,
     stretch: &[Record<'a>],
 ) -> Option<ToldEnd<'a>>
     requires { before + length stretch.now < usize.MAX }
-    ensures { IsEndTold first session.now before (map shown_of stretch.now)
+    ensures { IsEndTold (map located named.now) session.now before (map shown_of stretch.now)
         (option_map told_end_value result) }
 {
     let ended = ended_in(stretch)?;
     Some(ToldEnd {
-        first,
+        first: first_second(named),
         number: (before + ended.before) as u64 + 1,
+        micro: micro_after(named, before + ended.before),
         by: endpoint_of(address_of(ended.by, session)),
         ended,
     })
@@ -94,7 +101,14 @@ pub(crate) fn put_told_end<W: Sink>(
         (told_end_line is_over (option_map told_end_value told.entry)) }
 {
     match told {
-        Some(told) => put_ended_stretch(lines, told.first, told.number, &told.by, &told.ended),
+        Some(told) => put_ended_stretch(
+            lines,
+            told.first,
+            told.number,
+            told.micro,
+            &told.by,
+            &told.ended,
+        ),
         None => put_open(lines, is_over),
     }
 }

@@ -1,5 +1,5 @@
 -- The line that tells how a session ended.
-use Rattle.std.specs.Prelude.{◌++◌, ℕ, List, [], None, codes}
+use Rattle.std.specs.Prelude.{◌++◌, ℕ, List, [], Option, codes}
 use Rattle.std.specs.Fmt.{decimal}
 use Rattle.bgp_clock.specs.When.{short_text}
 use Rattle.bgp_why.specs.Endpoint.{endpoint_text}
@@ -25,8 +25,9 @@ ended_line first by ended =
     ++ (short_text first ended.moment.second ended.moment.micro
     ++ who_and_how_text ended.how by)))
 
--- that of a stretch, by the number of the record in its session, whose first record has this second
-unfoldable pub ended_stretch_line : ℕ → ℕ → Endpoint → EndedStretchValue → List ℕ
-ended_stretch_line first number by ended =
+-- that of a stretch, by the number of the record in its session, whose first record has this second,
+-- and by the fraction of the record's second
+unfoldable pub ended_stretch_line : ℕ → ℕ → Option ℕ → Endpoint → EndedStretchValue → List ℕ
+ended_stretch_line first number micro by ended =
     codes "  ended at record " ++ (decimal number ++ (codes ", "
-    ++ (short_text first ended.second None ++ who_and_how_text ended.how by)))
+    ++ (short_text first ended.second micro ++ who_and_how_text ended.how by)))

@@ -56,21 +56,22 @@ pub fn put_ended<W: Sink>(
 }
 
 /// Puts the line of a stretch that this system ended by the record with this number in its session,
-/// whose first record has this second:
-/// `  ended at record 12, 00:03:12: OpenConfirm to Idle, no NOTIFICATION`.
+/// whose first record has this second. The record's own second has this fraction, if it has one:
+/// `  ended at record 12, 00:03:12.250000: OpenConfirm to Idle, no NOTIFICATION`.
 pub fn put_ended_stretch<W: Sink>(
     lines: &mut Lines<'_, W>,
     first: Seconds,
     number: u64,
+    micro: Option<u32>,
     by: &Endpoint,
     ended: &EndedStretch<'_>,
 )
     ensures { Writes lines.old lines.new
-        (ended_stretch_line first number by.now (ended_stretch_value ended.now)) }
+        (ended_stretch_line first number micro by.now (ended_stretch_value ended.now)) }
 {
     lines.put(b"  ended at record ");
     lines.put_decimal(number);
     lines.put(b", ");
-    put_short(lines, first, ended.second, None);
+    put_short(lines, first, ended.second, micro);
     put_who_and_how(lines, ended.how, by);
 }

@@ -2,6 +2,8 @@ pub mod OpenedBy
 pub mod LinkKept
 pub mod OffersKept
 pub mod MomentsKept
+pub mod FractionsKept
+pub mod Agreeing
 pub mod Keeping
 pub mod Reading
 pub mod Standing

@@ -14,6 +14,7 @@ use Rattle.bgp_reason.specs.Told.{ToldOneMore, told, told_by_change, told_by_mes
 use Rattle.bgp_tool.specs.Seen.{leaves_idle}
 use Rattle.bgp_explain.specs.declared.moments.Moments.{Moments}
 use Rattle.bgp_explain.specs.declared.moments.SentNotification.{SentNotification}
+use Rattle.bgp_explain.specs.Fractions.{IsNameAfter, number_in}
 use Rattle.bgp_explain.specs.Moments.{AreMomentsOf, IsLastSent, IsSecondAt, IsSecondOf, IsSentAs, IsSentSinceIdle, LeavesNoIdle, first_number, first_with, last_number, named_with, notification_with}
 
 -- ---- the last one of a list
@@ -91,10 +92,6 @@ last_more (x ∷ xs) r second e =
     let long = length-append xs (r ∷ []) in
     second_here (x ∷ xs) r (length (xs ++ r ∷ []) + 1) second (let k : length (xs ++ r ∷ []) + 1 ≡ length (x ∷ xs) + 1 = omega (arith, long) in k) e
 
--- a name after one record more: as before, of that one, or none
-abbrev IsNameAfter : ℕ → Option ℕ → Option ℕ → Type 0
-IsNameAfter number before after = (after ≡ before) ⊎ ((after ≡ Some number) ⊎ (after ≡ None))
-
 module _ (records : List ShownRecord) (r : ShownRecord) (number second : ℕ) (next : number ≡ length records + 1) (its : second ≡ second_of r) where
   named_by : (b : Bool) (name : ℕ) (before : Option ℕ) (s : Option ℕ) → (name == number) ≡ b → IsSecondOf records before s → IsNameAfter number before (Some name)
       → IsSecondOf (records ++ r ∷ []) (Some name) (if b then Some second else s)
@@ -109,10 +106,10 @@ module _ (records : List ShownRecord) (r : ShownRecord) (number second : ℕ) (n
   named_more (Some name) before s is names = named_by (name == number) name before s refl is names
 
 -- what is named after one record more
-abbrev AreNamesAfter : ℕ → Told → Told → Type 0
-AreNamesAfter number t after = IsNameAfter number t.told_by after.told_by × IsNameAfter number t.last_received after.last_received
+abbrev pub AreToldAfter : ℕ → Told → Told → Type 0
+AreToldAfter number t after = IsNameAfter number t.told_by after.told_by × IsNameAfter number t.last_received after.last_received
 
-by_message : (number : ℕ) (f : Fsm) (t : Told) → AreNamesAfter number t (told_by_message number f t)
+by_message : (number : ℕ) (f : Fsm) (t : Told) → AreToldAfter number t (told_by_message number f t)
 by_message number fsms.Idle t = (inl refl, inl refl)
 by_message number fsms.Connect t = (inl refl, inr (inl refl))
 by_message number fsms.Active t = (inl refl, inr (inl refl))
@@ -120,7 +117,7 @@ by_message number fsms.OpenSent t = (inl refl, inr (inl refl))
 by_message number fsms.OpenConfirm t = (inl refl, inr (inl refl))
 by_message number fsms.Established t = (inl refl, inr (inl refl))
 
-by_change : (number : ℕ) (o : Option Fsm) (t : Told) → AreNamesAfter number t (told_by_change number o t)
+by_change : (number : ℕ) (o : Option Fsm) (t : Told) → AreToldAfter number t (told_by_change number o t)
 by_change number None t = (inl refl, inl refl)
 by_change number (Some fsms.Idle) t = (inr (inl refl), inr (inr refl))
 by_change number (Some fsms.Connect) t = (inr (inl refl), inl refl)
@@ -129,7 +126,7 @@ by_change number (Some fsms.OpenSent) t = (inr (inl refl), inl refl)
 by_change number (Some fsms.OpenConfirm) t = (inr (inl refl), inl refl)
 by_change number (Some fsms.Established) t = (inr (inl refl), inl refl)
 
-by_record : (number : ℕ) (r : ShownRecord) (t : Told) → AreNamesAfter number t (told_with number r t)
+pub by_record : (number : ℕ) (r : ShownRecord) (t : Told) → AreToldAfter number t (told_with number r t)
 by_record number (Received second octets) t = by_message number t.state t
 by_record number (Sent second octets) t = (inl refl, inl refl)
 by_record number (Changed second old new) t = by_change number (fsm_at new) t
@@ -214,6 +211,13 @@ module _ (config : Config) (records : List ShownRecord) where
       sent_more None None false e is none last = λ sent has. none_sent none last sent (sent_either sent has)
       sent_more (Some s) None false e is none last = (sent_stays s (sym e) last.0, λ other has. still_last s none last.1 other (sent_either other has))
 
+-- the one that is named after one record more
+pub named_sent : (number : ℕ) (P : SentNotification → Type 0) (before found : Option SentNotification) (left : Bool) → IfSome found (λ sent. (sent.number ≡ number) × P sent)
+    → IsNameAfter number (number_in before) (number_in (notification_with before found left))
+named_sent number P before (Some sent) left is = inr (inl (ap (λ (n : ℕ). let o : Option ℕ = Some n in o) is.0))
+named_sent number P before None true is = inr (inr refl)
+named_sent number P before None false is = inl refl
+
 -- ---- all
 
 module _ (law : ToldOneMore) (config : Config) (records : List ShownRecord) (r : ShownRecord) (number second : ℕ) (link : Option Link) (t : Told) (old : Moments)
@@ -222,8 +226,8 @@ module _ (law : ToldOneMore) (config : Config) (records : List ShownRecord) (r :
   told_then : t ≡ told_with number r (told records)
   told_then = tells ∙ law records r ∙ ap (λ (n : ℕ). told_with n r (told records)) (sym next)
 
-  names : AreNamesAfter number (told records) t
-  names = subst (λ (v : Told). AreNamesAfter number (told records) v) (sym told_then) (by_record number r (told records))
+  names : AreToldAfter number (told records) t
+  names = subst (λ (v : Told). AreToldAfter number (told records) v) (sym told_then) (by_record number r (told records))
 
   pub moments_more : (new : Moments) → left ≡ leaves_idle r → IfSome found (λ sent. (sent.number ≡ number) × IsSentAs link r sent)
       → IfNone found ((sent : SentNotification) → ¬ IsSentAs link r sent)

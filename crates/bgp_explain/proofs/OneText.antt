@@ -12,7 +12,7 @@ use Rattle.bgp_open.specs.declared.link.Link.{Link}
 use Rattle.bgp_open.specs.declared.route_offer.RouteOffer.{RouteOffer}
 use Rattle.bgp_open.specs.RouteOffer.{IsRouteOffer}
 use Rattle.bgp_update.specs.Subcodes.{SubcodesAreSets}
-use Rattle.mrt.specs.Capture.{ArePieces, Piece, Other, OtherEnds, PassedOver, Shown, Spells, last_after, records_of, shown_of}
+use Rattle.mrt.specs.Capture.{ArePieces, Piece, Other, OtherEnds, PassedOver, Shown, Spells, last_after, micros_of, records_of, shown_of}
 use Rattle.mrt.specs.CaptureLaws.{EachAllowed}
 use Rattle.mrt.specs.Rules.{End}
 use Rattle.mrt.specs.Written.{IsAllowed}
@@ -353,9 +353,9 @@ module _ (sets : SubcodesAreSets) (config : Config) where
       (subst (λ (r : ShownRecord). TellsWhy config style session None places before (Some (length before + 1, r)) k.rest) (sym shown) k.why) in
       h.whole ∙ (λ i. record_line (places (length before + 1) (second_of (shown i))) session.local (deed i) (cause i) ++ rest i) ∙ sym k.whole
 
-  module _ (law : HasOneVerdict) (records : List ShownRecord) (skipped : Skipped) (each : EachIsCaptured config records) (first other : List ℕ) (status code : ℕ) where
-    one_more : (s : SaysVerdict config records first status) (t : SaysVerdict config records other code) (more also : List ℕ) → SaysMore config records skipped first status s more
-        → SaysMore config records skipped other code t also → more ≡ also
+  module _ (law : HasOneVerdict) (records : List ShownRecord) (micros : List (Option ℕ)) (skipped : Skipped) (each : EachIsCaptured config records) (first other : List ℕ) (status code : ℕ) where
+    one_more : (s : SaysVerdict config records first status) (t : SaysVerdict config records other code) (more also : List ℕ) → SaysMore config records micros skipped first status s more
+        → SaysMore config records micros skipped other code t also → more ≡ also
     one_more (inl a) (inl b) more also h k = h ∙ sym k
     one_more (inl a) (inr (inl b)) more also h k =
         absurd (let e : Yes a.ends ≡ No b.count = law config records (Yes a.ends) (No b.count) (a.some, a.lists) (b.within, b.before, b.behind) in cc)
@@ -366,8 +366,8 @@ module _ (sets : SubcodesAreSets) (config : Config) where
     one_more (inr (inl a)) (inr (inl b)) more also h k =
         let e : No a.count ≡ No b.count = law config records (No a.count) (No b.count) (a.within, a.before, a.behind) (b.within, b.before, b.behind) in
         let count : a.count ≡ b.count = cc in
-        one_why_not (judge_style records) config.parts.session counted_places (take a.count records) (take (a.count + 1) records) more also (first_captured config a.count records each) h
-        (subst (λ (n : ℕ). TellsWhyNot config (judge_style records) config.parts.session counted_places (take n records) (take (n + 1) records) also) (sym count) k)
+        one_why_not (judge_style records) config.parts.session (counted_places micros) (take a.count records) (take (a.count + 1) records) more also (first_captured config a.count records each) h
+        (subst (λ (n : ℕ). TellsWhyNot config (judge_style records) config.parts.session (counted_places micros) (take n records) (take (n + 1) records) also) (sym count) k)
     one_more (inr (inl a)) (inr (inr b)) more also h k =
         absurd (let e : No a.count ≡ Unfinished = law config records (No a.count) Unfinished (a.within, a.before, a.behind) (b.begins, b.none) in cc)
     one_more (inr (inr a)) (inl b) more also h k =
@@ -375,7 +375,7 @@ module _ (sets : SubcodesAreSets) (config : Config) where
     one_more (inr (inr a)) (inr (inl b)) more also h k =
         absurd (let e : Unfinished ≡ No b.count = law config records Unfinished (No b.count) (a.begins, a.none) (b.within, b.before, b.behind) in cc)
     one_more (inr (inr a)) (inr (inr b)) more also h k =
-        one_why (judge_style records) config.parts.session None counted_places records None more also each h k
+        one_why (judge_style records) config.parts.session None (counted_places micros) records None more also each h k
 
 pub one_text : SubcodesAreSets → EachAllowed → HasOneVerdict
     → ((config : Config) (octets : List ℕ) (records also : List ShownRecord) (text other : List ℕ) (status code : ℕ) → Spells config.parts.session octets records
@@ -385,13 +385,13 @@ one_text sets allowed law verdict config octets records also text other status c
     let same = one_spelling config.parts.session octets records also spells spelled in
     let pieces : spells.pieces ≡ spelled.pieces = (one_reading config.parts.session octets spells.pieces spelled.pieces [] [] End End spells.text spelled.text).0 in
     let skipped = skipped_of spells.pieces in
-    let there : SaysExplained config records skipped other code =
-    subst (λ (v : List Piece). SaysExplained config records (skipped_of v) other code) (sym pieces)
-    (subst (λ (v : List ShownRecord). SaysExplained config v (skipped_of spelled.pieces) other code) (sym same) said)
+    let there : SaysExplained config records (micros_of spells.pieces) skipped other code =
+    subst (λ (v : List Piece). SaysExplained config records (micros_of v) (skipped_of v) other code) (sym pieces)
+    (subst (λ (v : List ShownRecord). SaysExplained config v (micros_of spelled.pieces) (skipped_of spelled.pieces) other code) (sym same) said)
     in
     let each : EachIsCaptured config records = subst (EachIsCaptured config) (sym spells.shown) (each_captured config allowed None spells.pieces spells.text.each) in
     let (first, equal) = verdict config octets records records says.first there.first status code spells says.says spells there.says in
-    let more = one_more sets config law records skipped each says.first there.first status code says.says there.says says.more there.more says.explains there.explains in
+    let more = one_more sets config law records (micros_of spells.pieces) skipped each says.first there.first status code says.says there.says says.more there.more says.explains there.explains in
     (says.whole ∙ (λ i. first i ++ more i) ∙ sym there.whole, equal)
 
 -- ---- of records, wherever they stand

@@ -6,7 +6,7 @@ use Rattle.bgp_open.specs.declared.config.Config.{Config}
 use Rattle.mrt.specs.declared.fault.CaptureFault.{CaptureFault}
 use Rattle.mrt.specs.declared.fault.FaultKind.TheVariants as kinds
 use Rattle.mrt.specs.declared.record.Endpoints.{Endpoints}
-use Rattle.mrt.specs.Capture.{ArePieces, others_of, joined, last_of, records_of}
+use Rattle.mrt.specs.Capture.{ArePieces, others_of, joined, last_of, micros_of, records_of}
 use Rattle.mrt.specs.Reader.{ReaderState, Ends, places_of}
 use Rattle.mrt.specs.Skipped.{skipped_in, both_skipped}
 use Rattle.mrt.specs.declared.skipped.SkippedRecords.{SkippedRecords}
@@ -23,16 +23,18 @@ use Rattle.bgp_explain.specs.declared.explained.Reason.{Reason}
 use Rattle.bgp_explain.specs.declared.explained.Totals.{Totals}
 use Rattle.bgp_explain.specs.declared.skipped.Skipped.{Skipped}
 use Rattle.bgp_explain.specs.Explaining.{ExplainsBy, IsExplained, ReadsAll}
+use Rattle.bgp_explain.specs.Fractions.{AreKeptFor}
 use Rattle.bgp_explain.specs.LeftOut.{JudgesWithout}
 use Rattle.bgp_explain.specs.Reason.{AreSummed, HasReason}
+use Rattle.bgp_explain.proofs.FractionsKept.{micros_chain, no_micros}
 
 module _ {S : Type 0} (gives : S → S → List ℕ → Type 0) (has_ended : S → Bool)
     (gives_joined : (a b c : S) (xs ys : List ℕ) → gives a b xs → gives b c ys → gives a c (xs ++ ys))
     (count : S → ℕ) (counted : (a b : S) (xs : List ℕ) → gives a b xs → count b ≡ count a + length xs)
     (config : Config) (source : S) (may_lack : Config → List ShownRecord → ShownRecord → Type 0) where
   -- to the end
-  pub reads_all : (now next : S) (state after : ReaderState) (records : List ShownRecord) (Holds : List ShownRecord → Type 0)
-      → SoFar gives has_ended gives_joined count counted config source may_lack now state records → Holds records
+  pub reads_all : (now next : S) (state after : ReaderState) (records : List ShownRecord) (Holds : List ShownRecord → List (Option ℕ) → Type 0)
+      → (so_far : SoFar gives has_ended gives_joined count counted config source may_lack now state records) → Holds records (micros_of so_far.pieces)
       → Ends gives has_ended config.parts.session now next state after
       → ReadsWith gives config.parts.session source next after None (λ given. ReadsAll given has_ended config source next may_lack Holds after)
   reads_all now next state after records Holds so_far holds ends =
@@ -57,7 +59,10 @@ module _ {S : Type 0} (gives : S → S → List ℕ → Type 0) (has_ended : S �
       ap (λ (s : ReaderState). s.place) ends.stands ∙ ap (λ (n : ℕ). n + length (joined ends.skipped)) so_far.passed ∙ sym many in
       let shown : records_of pieces ≡ records =
       records_chain so_far.pieces ends.skipped ∙ ap (λ (r : List ShownRecord). records_of so_far.pieces ++ r) ends.only ∙ append-nil (records_of so_far.pieces)
-      ∙ so_far.shown in (
+      ∙ so_far.shown in
+      let micros : micros_of pieces ≡ micros_of so_far.pieces =
+      micros_chain so_far.pieces ends.skipped ∙ ap (λ (m : List (Option ℕ)). micros_of so_far.pieces ++ m) (no_micros ends.skipped ends.only)
+      ∙ append-nil (micros_of so_far.pieces) in (
         record {
           pieces = pieces;
           rest = [];
@@ -71,7 +76,7 @@ module _ {S : Type 0} (gives : S → S → List ℕ → Type 0) (has_ended : S �
             each = each;
             place = place;
             knows = (last, others, skipped);
-            holds = subst Holds (sym shown) holds;
+            holds = subst (λ (r : List ShownRecord). Holds r (micros_of pieces)) (sym shown) (subst (λ (m : List (Option ℕ)). Holds records m) (sym micros) holds);
           };
         },
         refl,
@@ -79,7 +84,7 @@ module _ {S : Type 0} (gives : S → S → List ℕ → Type 0) (has_ended : S �
 
 module _ {S : Type 0} (gives : S → S → List ℕ → Type 0) (has_ended : S → Bool) (config : Config) (source new : S)
     (may_lack : Config → List ShownRecord → ShownRecord → Type 0) where
-  module _ (Holds : List ShownRecord → Type 0) (reader : ReaderState) (reads : ReadsAll gives has_ended config source new may_lack Holds reader) where
+  module _ (Holds : List ShownRecord → List (Option ℕ) → Type 0) (reader : ReaderState) (reads : ReadsAll gives has_ended config source new may_lack Holds reader) where
     -- all was read, and there is no memory
     pub unlisted : (fault : CaptureFault) → fault ≡ record { kind = kinds.Memory; offset = reader.place } → Begins config (records_of reads.pieces)
         → IsRefusal gives has_ended config source new may_lack fault
@@ -97,9 +102,10 @@ module _ {S : Type 0} (gives : S → S → List ℕ → Type 0) (has_ended : S �
     pub explained : {X Y : Type 0} (answer : Verdict X) (why : Option (Reason Y)) (totals : Totals) → IsVerdict config (records_of reads.pieces) answer
         → HasReason config (records_of reads.pieces) answer why → AreSummed (records_of reads.pieces) answer totals.tally totals.seen → totals.octets ≡ reader.place
         → totals.skipped ≡ record { counts = reader.skipped; others = places_of reader.others } → (IsTrue totals.confederation ↔ SomeShowConfederations (records_of reads.pieces))
-        → JudgesWithout config (records_of reads.pieces) totals.left_out
+        → JudgesWithout config (records_of reads.pieces) totals.left_out → AreKeptFor (micros_of reads.pieces) why totals.fractions
         → IsExplained gives has_ended config source new may_lack answer why totals
-    explained answer why totals is has sums place skips confederation without = record {
+    explained answer why totals is has sums place skips confederation without kept = record {
+      fractions = kept;
       confederation = confederation;
       left_out = without;
       skips = skips ∙ ap (λ (k : SkippedRecords). let s : Skipped = record { counts = k; others = places_of reader.others } in s) reads.knows.2

@@ -9,7 +9,7 @@ use Rattle.mrt.specs.declared.fault.CaptureFault.{CaptureFault}
 use Rattle.mrt.specs.declared.fault.FaultKind.{FaultKind}
 use Rattle.mrt.specs.declared.fault.FaultKind.TheVariants as kinds
 use Rattle.bgp_tool.specs.CaptureDecoding.{status_by}
-use Rattle.mrt.specs.Capture.{ArePieces, Piece, Spells, joined, records_of}
+use Rattle.mrt.specs.Capture.{ArePieces, Piece, Spells, joined, micros_of, records_of}
 use Rattle.mrt.proofs.OneReading.{one_spelling}
 use Rattle.bgp_judge.proofs.CaptureSoFar.{spelled}
 use Rattle.bgp_tool.proofs.SeenSoFar.{fault_is_no_yes}
@@ -56,7 +56,9 @@ use Rattle.bgp_explain.specs.Records.{SaysLines}
 use Rattle.bgp_explain.specs.Text.{CanBePutOf, IsExplainedText, IsMoreBy, IsMoreOf, IsReasonText, IsWhyOf, first_by, first_in, no_memory_line}
 use Rattle.bgp_explain.specs.Why.{IsWhy}
 use Rattle.bgp_explain.proofs.FirstSecond.{first_alone, first_next, first_taken}
+use Rattle.bgp_explain.specs.Fractions.{AreKeptFor}
 use Rattle.bgp_explain.specs.Places.{counted_places}
+use Rattle.bgp_explain.proofs.Agreeing.{by_all}
 use Rattle.bgp_explain.proofs.NextRecord.{Can, can_of, each_can}
 use Rattle.bgp_explain.specs.Skipped.{skipped_of}
 use Rattle.bgp_explain.specs.Tally.{tally_of, yes_lines}
@@ -230,11 +232,11 @@ module _ {X : Type 0} (config : Config) (session : Session) (places : ℕ → �
       (first_of_all reason reason.impossible has.1 has.0) (why_unfinished config (plain (first_in (Some reason)) false) session places Y records reason more has is))
 
 -- explained, or told without its reason
-says : {X Y : Type 0} (config : Config) (records : List ShownRecord) (skipped : Skipped) (verdict : Verdict X) (why : Option (Reason Y)) (detailed : Bool) (totals : Totals) (more text : List ℕ)
+says : {X Y : Type 0} (config : Config) (records : List ShownRecord) (micros : List (Option ℕ)) (skipped : Skipped) (verdict : Verdict X) (why : Option (Reason Y)) (detailed : Bool) (totals : Totals) (more text : List ℕ)
     → IsVerdict config records verdict → HasReason config records verdict why → AreSummed records verdict totals.tally totals.seen → totals.skipped ≡ skipped
-    → IsMoreOf config (Ok verdict) why detailed totals more → text ≡ verdict_text verdict ++ more
-    → SaysExplained config records skipped text (verdict_status verdict) ⊎ SaysUnexplained config records text (verdict_status verdict)
-says config records skipped (Yes ends) why detailed totals more text is has sums skips tells whole = inl record {
+    → AreKeptFor micros why totals.fractions → IsMoreOf config (Ok verdict) why detailed totals more → text ≡ verdict_text verdict ++ more
+    → SaysExplained config records micros skipped text (verdict_status verdict) ⊎ SaysUnexplained config records text (verdict_status verdict)
+says config records micros skipped (Yes ends) why detailed totals more text is has sums skips kept tells whole = inl record {
   first = verdict_text (Yes ends);
   more = more;
   says = inl record { ends = map end_value ends.items; some = is.0; lists = is.1; prints = refl; tells = refl };
@@ -243,8 +245,9 @@ says config records skipped (Yes ends) why detailed totals more text is has sums
       ∙ ap (λ (k : Skipped). yes_lines (tally_of records) (Some k) (seen_in records).left_idle) skips;
   whole = whole;
 }
-says {X} {Y} config records skipped (No count) why detailed totals more text is has sums skips tells whole =
-    elim (more_of_no config config.parts.session counted_places X records count why detailed more has tells) [
+says {X} {Y} config records micros skipped (No count) why detailed totals more text is has sums skips kept tells whole =
+    elim (more_of_no config config.parts.session (counted_places micros) X records count why detailed more has
+    (by_all config (plain (first_in why) false) config.parts.session micros totals.fractions why detailed more kept tells)) [
       | inl why_not ↦ inl record {
         first = verdict_text {X = X} (No count);
         more = more;
@@ -259,8 +262,9 @@ says {X} {Y} config records skipped (No count) why detailed totals more text is 
         whole = whole ∙ ap (λ (m : List ℕ). verdict_text {X = X} (No count) ++ m) none;
       }
     ]
-says {X} {Y} config records skipped Unfinished why detailed totals more text is has sums skips tells whole =
-    elim (more_of_unfinished config config.parts.session counted_places X records why detailed more has tells) [
+says {X} {Y} config records micros skipped Unfinished why detailed totals more text is has sums skips kept tells whole =
+    elim (more_of_unfinished config config.parts.session (counted_places micros) X records why detailed more has
+    (by_all config (plain (first_in why) false) config.parts.session micros totals.fractions why detailed more kept tells)) [
       | inl may ↦ inl record {
         first = verdict_text {X = X} Unfinished;
         more = more;
@@ -284,7 +288,7 @@ module _ {R : Type 0} (gives : R → R → List ℕ → Type 0) (has_ended : R �
   -- a verdict that is explained, or told without its reason
   pub verdict_told : {X Y : Type 0} (verdict : Verdict X) (why : Option (Reason Y)) (totals : Totals) (text : List ℕ) (status : ℕ)
       → (is : IsExplained gives has_ended config source source' may_lack verdict why totals) → counts source' ≡ counts source + 0
-      → SaysExplained config is.records (skipped_of is.spells.pieces) text status ⊎ SaysUnexplained config is.records text status
+      → SaysExplained config is.records (micros_of is.spells.pieces) (skipped_of is.spells.pieces) text status ⊎ SaysUnexplained config is.records text status
       → TellsExplained gives has_ended counts config source source' text status
       ⊎ TellsFault gives has_ended counts config source source' may_lack text status
       ⊎ TellsVerdict gives has_ended counts config source source' text status
@@ -309,7 +313,7 @@ module _ {R : Type 0} (gives : R → R → List ℕ → Type 0) (has_ended : R �
 
   pub no_fault_told : {X Y : Type 0} (verdict : Verdict X) (why : Option (Reason Y)) (totals : Totals) (text : List ℕ) (status : ℕ)
       → (is : IsExplained gives has_ended config source source' may_lack verdict why totals) → (counted : counts source' ≡ counts source + 0)
-      → (said : SaysExplained config is.records (skipped_of is.spells.pieces) text status ⊎ SaysUnexplained config is.records text status)
+      → (said : SaysExplained config is.records (micros_of is.spells.pieces) (skipped_of is.spells.pieces) text status ⊎ SaysUnexplained config is.records text status)
       → None ≡ fault_told (verdict_told verdict why totals text status is counted said)
   unfolding verdict_told
   no_fault_told verdict why totals text status is counted (inl explained) = refl
@@ -324,7 +328,7 @@ module _ {R : Type 0} (gives : R → R → List ℕ → Type 0) (has_ended : R �
       ⊎ TellsVerdict gives has_ended counts config source source' text (answer_status answer)
   tells_it (Ok verdict) why detailed totals more text is counted tell whole =
       verdict_told verdict why totals text (verdict_status verdict) is counted
-      (says config is.records (skipped_of is.spells.pieces) verdict why detailed totals more text is.verdict is.reason is.summed is.skips tell whole)
+      (says config is.records (micros_of is.spells.pieces) (skipped_of is.spells.pieces) verdict why detailed totals more text is.verdict is.reason is.summed is.skips is.fractions tell whole)
   tells_it (Err fault) why detailed totals more text is counted tell whole = inr (inl record {
     fault = fault;
     why = is.0;
@@ -395,6 +399,7 @@ module _ {F R : Type 0} (view : F → R) (has_ended : R → Bool) (config : Conf
     left_out = is.left_out;
     summed = is.summed;
     skips = is.skips;
+    fractions = is.fractions;
     octets = is.octets;
     records = is.records;
     gave = is.gave;
@@ -455,7 +460,7 @@ module _ {F R W : Type 0} (view : F → R) (takes : W → W → List ℕ → Typ
   unfolding tells_it
   told_in given (Ok verdict) why detailed totals more text is counted tell whole =
       no_fault_told given has_ended counts config (view source) (view source') may_lack verdict why totals text (verdict_status verdict) is counted
-      (says config is.records (skipped_of is.spells.pieces) verdict why detailed totals more text is.verdict is.reason is.summed is.skips tell whole)
+      (says config is.records (micros_of is.spells.pieces) (skipped_of is.spells.pieces) verdict why detailed totals more text is.verdict is.reason is.summed is.skips is.fractions tell whole)
   told_in given (Err fault) why detailed totals more text is counted tell whole = refl
 
   told_at : {X : Type 0} (given : R → R → List ℕ → Type 0) (explained : Explained X) (detailed : Bool) (text : List ℕ)
@@ -601,6 +606,7 @@ module _ {S : Type 0} (has_ended : S → Bool) (config : Config) (source new : S
     left_out = is.left_out;
     summed = is.summed;
     skips = is.skips;
+    fractions = is.fractions;
     octets = is.octets;
     records = is.records;
     gave = given is.octets is.gave;

@@ -6,7 +6,7 @@ use Rattle.std.proofs.Common.{inl, inr}
 use Rattle.bgp_prefix.specs.Shown.{ShownRecord, second_of}
 use Rattle.bgp_prefix.specs.declared.session.Session.{Session}
 use Rattle.bgp_open.specs.declared.config.Config.{Config}
-use Rattle.mrt.specs.Capture.{Spells}
+use Rattle.mrt.specs.Capture.{Spells, micros_of}
 use Rattle.bgp_reason.specs.declared.kinds.Possible.{Possible}
 use Rattle.bgp_reason.specs.Asked.{AreAsked}
 use Rattle.bgp_reason.specs.Possible.{ArePossible}
@@ -104,26 +104,27 @@ abbrev pub judge_style : List ShownRecord → Style
 judge_style records = plain (first_second records) false
 
 -- What is told after a verdict: of a no why the next record is impossible, of an unfinished what
--- may follow, and after a yes what its records are, and what was skipped.
-module _ (config : Config) (records : List ShownRecord) (skipped : Skipped) (first : List ℕ)
-    (status : ℕ) where
+-- may follow, and after a yes what its records are, and what was skipped. Beside the records there
+-- are the fractions of their seconds.
+module _ (config : Config) (records : List ShownRecord) (micros : List (Option ℕ))
+    (skipped : Skipped) (first : List ℕ) (status : ℕ) where
   abbrev pub SaysMore : SaysVerdict config records first status → List ℕ → Type 0
   SaysMore (inl says) more =
       more ≡ yes_lines (tally_of records) (Some skipped) (seen_in records).left_idle
   SaysMore (inr (inl denies)) more =
-      TellsWhyNot config (judge_style records) config.parts.session counted_places
+      TellsWhyNot config (judge_style records) config.parts.session (counted_places micros)
       (take denies.count records) (take (denies.count + 1) records) more
   SaysMore (inr (inr unfinished)) more =
-      TellsWhy config (judge_style records) config.parts.session None counted_places records None
-      more
+      TellsWhy config (judge_style records) config.parts.session None (counted_places micros)
+      records None more
 
 -- the text of the verdict, and after it why it is so
-pub record SaysExplained (config : Config) (records : List ShownRecord) (skipped : Skipped)
-    (text : List ℕ) (status : ℕ) : Type 0 where
+pub record SaysExplained (config : Config) (records : List ShownRecord)
+    (micros : List (Option ℕ)) (skipped : Skipped) (text : List ℕ) (status : ℕ) : Type 0 where
   pub first : List ℕ
   pub more : List ℕ
   pub says : SaysVerdict config records first status
-  pub explains : SaysMore config records skipped first status says more
+  pub explains : SaysMore config records micros skipped first status says more
   pub whole : text ≡ first ++ more
 
 -- the source was read to its end, its octets spell records, and this explains the verdict on them
@@ -135,7 +136,8 @@ pub record TellsExplained {R : Type 0} (gives : R → R → List ℕ → Type 0)
   pub gave : gives source source' octets
   pub ended : IsTrue (has_ended source')
   pub spells : Spells config.parts.session octets records
-  pub says : SaysExplained config records (skipped_of spells.pieces) text status
+  pub says : SaysExplained config records (micros_of spells.pieces) (skipped_of spells.pieces) text
+      status
   pub counted : failures source' ≡ failures source
 
 -- the text of a verdict other than yes, and after it that memory was refused for its reason
@@ -179,10 +181,11 @@ pub record ExplainsCapture {R W : Type 0} (gives : R → R → List ℕ → Type
 -- what is explained, or told without its reason, begins with what is judged
 abbrev pub ExplainedAsJudged : Type 0
 ExplainedAsJudged =
-    (config : Config) (octets : List ℕ) (records also : List ShownRecord) (skipped : Skipped)
-    (text other : List ℕ) (status code : ℕ)
+    (config : Config) (octets : List ℕ) (records also : List ShownRecord)
+    (micros : List (Option ℕ)) (skipped : Skipped) (text other : List ℕ) (status code : ℕ)
     → Spells config.parts.session octets records
-    → SaysExplained config records skipped text status ⊎ SaysUnexplained config records text status
+    → SaysExplained config records micros skipped text status
+    ⊎ SaysUnexplained config records text status
     → Spells config.parts.session octets also → SaysVerdict config also other code
     → (status ≡ code) × ((more : List ℕ) × (text ≡ other ++ more))
 
@@ -192,7 +195,7 @@ HasOneText =
     (config : Config) (octets : List ℕ) (records also : List ShownRecord) (text other : List ℕ)
     (status code : ℕ)
     → (spells : Spells config.parts.session octets records)
-    → SaysExplained config records (skipped_of spells.pieces) text status
+    → SaysExplained config records (micros_of spells.pieces) (skipped_of spells.pieces) text status
     → (spelled : Spells config.parts.session octets also)
-    → SaysExplained config also (skipped_of spelled.pieces) other code
+    → SaysExplained config also (micros_of spelled.pieces) (skipped_of spelled.pieces) other code
     → (text ≡ other) × (status ≡ code)

@@ -1,4 +1,5 @@
 pub mod Settled
+pub mod Fractions
 pub mod Places
 pub mod Offers
 pub mod LeftOut

@@ -5,28 +5,41 @@ use Rattle.std.specs.Prelude.{ℕ, zero, suc, List, Option, None, Some, slice_ge
 use Rattle.std.specs.Prelude.{unwrap_or}
 use Rattle.bgp_recording.specs.declared.entry.Entry.{Entry}
 use Rattle.bgp_why.specs.declared.place.Place.{Place}
+use Rattle.bgp_explain.specs.declared.fractions.Fractions.{Fractions}
+use Rattle.bgp_explain.specs.declared.fractions.NumberedRecord.{NumberedRecord}
+use Rattle.bgp_explain.specs.Fractions.{counted, micro_at, micro_in}
 use Rattle.bgp_explain.specs.declared.places.Places.{Places}
 use Rattle.bgp_explain.specs.declared.places.Places.TheVariants.{Counted, Shown, Numbered}
 
--- the item with this count, where there is one
-abbrev pub counted : {X : Type 0} → List X → ℕ → Option X
-counted items zero = None
-counted items (suc index) = slice_get items index
-
--- the number with this count, or the count itself where there are fewer
-abbrev pub number_at : List ℕ → ℕ → ℕ
-number_at numbers count = unwrap_or (counted numbers count) count
+-- the number and the fraction with this count, or the count itself where there are fewer
+abbrev pub numbered_at : List NumberedRecord → ℕ → NumberedRecord
+numbered_at numbers count = unwrap_or (counted numbers count) (record { number = count; micro = None })
 
 -- ---- of the record with a count, and its second
 
--- in a capture: without a packet, and without a fraction of the second
+-- without a packet, and without a fraction of the second
 abbrev pub place_with : ℕ → ℕ → Place
 place_with number second =
     record { number = number; packet = None; second = second; micro = None }
 
--- of all records of a capture's session: its count is its number
-abbrev pub counted_places : ℕ → ℕ → Place
-counted_places count second = place_with count second
+-- in a capture: without a packet
+abbrev pub capture_place : NumberedRecord → ℕ → Place
+capture_place numbered second = record {
+  number = numbered.number;
+  packet = None;
+  second = second;
+  micro = numbered.micro;
+}
+
+-- of all records of a capture's session, whose seconds have these fractions: its count is its number
+abbrev pub counted_places : List (Option ℕ) → ℕ → ℕ → Place
+counted_places micros count second =
+    capture_place (record { number = count; micro = micro_at micros count }) second
+
+-- so, as far as the fractions are kept
+abbrev pub kept_places : Fractions → ℕ → ℕ → Place
+kept_places fractions count second =
+    capture_place (record { number = count; micro = micro_in fractions count }) second
 
 -- of an entry's record: the packet that shows it, and the time of that
 abbrev pub entry_place : ℕ → Entry → Place
@@ -45,12 +58,12 @@ shown_place count second (Some entry) = entry_place count entry
 abbrev pub shown_places : List Entry → ℕ → ℕ → Place
 shown_places entries count second = shown_place count second (counted entries count)
 
--- of some records of a capture's session, which have these numbers there
-abbrev pub numbered_places : List ℕ → ℕ → ℕ → Place
-numbered_places numbers count second = place_with (number_at numbers count) second
+-- of some records of a capture's session, which have these numbers there, and these fractions
+abbrev pub numbered_places : List NumberedRecord → ℕ → ℕ → Place
+numbered_places numbers count second = capture_place (numbered_at numbers count) second
 
 abbrev pub places_of : Places → ℕ → ℕ → Place
-places_of Counted = counted_places
+places_of (Counted fractions) = kept_places fractions.now
 places_of (Shown entries) = shown_places entries.now
 places_of (Numbered numbers) = numbered_places numbers.now
 

@@ -20,7 +20,7 @@ use Rattle.bgp_explain.specs.Deed.{IsFirstLine}
 use Rattle.bgp_explain.specs.Details.{AreLacksOf, next_in}
 use Rattle.bgp_explain.specs.Kept.{shown_by}
 use Rattle.bgp_explain.specs.Lacked.{Lacked}
-use Rattle.bgp_explain.specs.Places.{counted_places}
+use Rattle.bgp_explain.specs.Places.{kept_places}
 use Rattle.bgp_explain.specs.Tally.{yes_lines}
 use Rattle.bgp_explain.specs.Why.{IsWhy}
 
@@ -75,8 +75,8 @@ abbrev pub IsMoreOf : {X Y : Type 0} → Config → Result (Verdict X) CaptureFa
 IsMoreOf config (Ok (Yes ends)) reason detailed totals more =
     more ≡ yes_lines totals.tally (Some totals.skipped) totals.seen.left_idle
 IsMoreOf config (Ok verdict) reason detailed totals more =
-    IsMoreBy config (plain (first_in reason) false) config.parts.session counted_places reason
-    detailed more
+    IsMoreBy config (plain (first_in reason) false) config.parts.session
+    (kept_places totals.fractions) reason detailed more
 IsMoreOf config (Err fault) reason detailed totals more = more ≡ []
 
 -- the verdict's own text, and then what comes after it

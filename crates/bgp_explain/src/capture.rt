@@ -8,9 +8,11 @@ ghost use Rattle.mrt.specs.Progress.{failures_of};
 ghost use Rattle.mrt.specs.Reader.{fresh_reader, shown_of};
 ghost use Rattle.bgp_judge.specs.Judging.{Judges, ReadsWith, fault_in};
 ghost use Rattle.bgp_explain.specs.Explaining.{Explains, Follows};
+ghost use Rattle.bgp_explain.specs.Fractions.{AreKept, no_names, progress_names};
 ghost use Rattle.bgp_explain.specs.Progress.{IsAt};
 
 use crate::explained::{Explained, Totals};
+use crate::fractions::{Fractions, names_of};
 use crate::left_out::LeftOut;
 use crate::skipped::Skipped;
 use crate::so_far::Progress;
@@ -47,6 +49,7 @@ pub(crate) fn refused<A: Allocator>(fault: CaptureFault) -> Explained<A>
             confederation: false,
             left_out: LeftOut::nothing(),
             skipped: Skipped::nothing(),
+            fractions: Fractions::none(),
         },
     }
 }
@@ -59,9 +62,17 @@ fn with_confederation(so_far: bool, shown: &Record<'_>) -> bool
     so_far || shows_confederation(shown)
 }
 
+/// What is told of all records of a session that were followed.
+#[derive(Clone, Copy)]
+pub(crate) struct Followed {
+    /// Whether they show an UPDATE of a confederation.
+    pub(crate) confederation: bool,
+    /// The fractions of the seconds of those that are named.
+    pub(crate) fractions: Fractions,
+}
+
 /// Reads the records of the session, to the end of the capture or to its first fault, and lets the
-/// tracker take them, to the first impossible one. What they tell is kept. Returns whether they
-/// show an UPDATE of a confederation.
+/// tracker take them, to the first impossible one. What they tell is kept.
 fn follow<A: Allocator + Copy, T: Tracker<A>, S: Source>(
     progress: &mut Progress<A>,
     alloc: A,
@@ -69,32 +80,44 @@ fn follow<A: Allocator + Copy, T: Tracker<A>, S: Source>(
     reader: &mut Reader<A>,
     config: &Config,
     source: &mut S,
-) -> Result<bool, CaptureFault>
+) -> Result<Followed, CaptureFault>
     requires at { IsAt (T.stands_for tracker.old) config.now [] progress.old }
     requires count { progress.old.count ≡ 0 }
+    requires names { progress_names progress.old ≡ no_names }
     requires fresh { reader.old ≡ fresh_reader }
     requires failures { S.failures source.old < u64.MAX }
     ensures follows { ReadsWith S.gives config.now.parts.session source.old source.new reader.new
         (fault_in result)
         (λ gives. Follows gives S.has_ended config.now source.old source.new
         T.may_lack
-        (λ shows records. IsAt (T.stands_for tracker.new) config.now records progress.new
-        × (IsTrue shows ↔ SomeShowConfederations records))
+        (λ followed records micros. IsAt (T.stands_for tracker.new) config.now records progress.new
+        × (IsTrue followed.confederation ↔ SomeShowConfederations records)
+        × AreKept micros (progress_names progress.new) followed.fractions)
         reader.new result) }
     ensures failures { S.failures source.new ≡ S.failures source.old + failures_of result }
 {
     let mut confederation = false;
+    let mut fractions = Fractions::none();
+    let mut number = 0;
     loop {
         let advanced = match reader.next_record(source, &config.parts.session) {
             Ok(Some(shown)) => {
                 confederation = with_confederation(confederation, &shown);
                 progress.advance(alloc, tracker, config, &shown)
             }
-            Ok(None) => return Ok(confederation),
+            Ok(None) => {
+                return Ok(Followed {
+                    confederation,
+                    fractions,
+                });
+            }
             Err(fault) => return Err(fault),
         };
         match advanced {
-            Ok(()) => {}
+            Ok(()) => {
+                number += 1;
+                fractions = fractions.with(number, names_of(progress), reader.micro());
+            }
             Err(_) => return Err(out_of_memory(reader.place())),
         }
     }
@@ -132,17 +155,18 @@ pub fn explain_with<A: Allocator + Copy, T: Tracker<A>, S: Source>(
     };
     let mut progress = Progress::new(alloc);
     let followed = follow(&mut progress, alloc, &mut tracker, reader, config, source);
-    let confederation = match followed {
-        Ok(confederation) => confederation,
+    let found = match followed {
+        Ok(found) => found,
         Err(fault) => return refused(fault),
     };
     let totals = Totals {
         octets: reader.place(),
         tally: progress.tally,
         seen: progress.seen,
-        confederation,
+        confederation: found.confederation,
         left_out: progress.sending.offers.left_out(config),
         skipped: Skipped::by(reader),
+        fractions: found.fractions,
     };
     match progress.conclude(alloc, &tracker, config) {
         Ok((verdict, reason)) => Explained {

@@ -1,5 +1,6 @@
 //! What is answered of a capture that is explained.
 
+use crate::fractions::Fractions;
 use crate::kept::KeptRecord;
 use crate::left_out::LeftOut;
 use crate::moments::Moments;
@@ -59,6 +60,8 @@ pub struct Totals {
     pub left_out: LeftOut,
     /// What it holds beside the records of the session.
     pub skipped: Skipped,
+    /// The fractions of the seconds of those records that the reason names.
+    pub fractions: Fractions,
 }
 
 /// What judging a capture answers, and why.

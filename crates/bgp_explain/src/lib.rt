@@ -14,6 +14,7 @@ mod capture;
 mod deed;
 mod details;
 mod explained;
+mod fractions;
 mod headline;
 mod kept;
 mod laws;
@@ -36,6 +37,7 @@ mod why;
 pub use capture::explain_with;
 pub use details::Details;
 pub use explained::{Explained, Impossible, Reason, Totals};
+pub use fractions::{Fractions, NumberedRecord};
 pub use headline::{explain_capture, explained_as_judged};
 pub use kept::KeptRecord;
 pub use laws::{

@@ -9,6 +9,7 @@ ghost use Rattle.bgp_reason.specs.Sending.{sending_link};
 ghost use Rattle.bgp_reason.specs.Told.{told as told_by};
 ghost use Rattle.bgp_tool.specs.Seen.{leaves_idle};
 ghost use Rattle.bgp_explain.specs.declared.moments.SentNotification.{SentNotification as TheSent};
+ghost use Rattle.bgp_explain.specs.Fractions.{IsNameAfter, number_in};
 ghost use Rattle.bgp_explain.specs.Moments.{AreMomentsOf, IsSentAs, first_second, first_with};
 ghost use Rattle.bgp_explain.specs.Moments.{named_with, notification_with};
 
@@ -183,12 +184,14 @@ impl Moments {
         told: Told,
         shown: &Record<'_>,
     ) -> Moments
-        ensures { (config : TheConfig) (records : List ShownRecord)
+        ensures are { (config : TheConfig) (records : List ShownRecord)
             → number ≡ length records + 1
             → link ≡ sending_link config records
             → told ≡ told_by (records ++ shown_of shown.now ∷ [])
             → AreMomentsOf config records self
             → AreMomentsOf config (records ++ shown_of shown.now ∷ []) result }
+        ensures named { IsNameAfter number (number_in self.notification)
+            (number_in result.notification) }
     {
         records_tell_one_by_one();
         let second = second_in(shown);

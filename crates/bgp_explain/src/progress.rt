@@ -1,13 +1,15 @@
 //! A session's records are judged one after another, and what they tell is kept.
 
 ghost use Rattle.std.specs.Prelude.{◌↔◌, ◌≢◌, ◌≡◌, ◌<◌, ◌≤◌, ◌+◌, ◌++◌, ◌∷◌, [], ℕ, List, Option};
-ghost use Rattle.std.specs.Prelude.{◌^◌, IsTrue, IfOk, IfSome, OnErr};
+ghost use Rattle.std.specs.Prelude.{◌^◌, IsTrue, IfOk, IfSome, OnErr, length};
 ghost use Rattle.bgp_prefix.specs.Shown.{ShownRecord};
 ghost use Rattle.bgp_judge.specs.Verdict.{IsVerdict};
 ghost use Rattle.bgp_open.specs.declared.config.Config.{Config as TheConfig};
 ghost use Rattle.bgp_machine.specs.Run.{Begins};
 ghost use Rattle.mrt.specs.Reader.{shown_of};
 ghost use Rattle.bgp_reason.specs.Told.{last_from};
+ghost use Rattle.bgp_explain.specs.Fractions.{AreNamesAfter, found_number, names_by, no_names};
+ghost use Rattle.bgp_explain.specs.Fractions.{progress_names, reason_names};
 ghost use Rattle.bgp_explain.specs.Progress.{AreSaidBy, IsAt, IsFound, IsNamed, IsToldOf};
 ghost use Rattle.bgp_explain.specs.Reason.{AreSummed, HasReason, IsReasonAt};
 
@@ -65,11 +67,13 @@ fn stopped<A: Allocator>(
     last_message: Option<Vec<u8, A>>,
     found: Option<Found<A>>,
 ) -> Option<Reason<A>>
-    ensures { (before : List ShownRecord) (shown : ShownRecord)
+    ensures is { (before : List ShownRecord) (shown : ShownRecord)
         → AreSaidBy config.now before told moments sending last_message
         → IfSome found (IsFound config.now before shown)
         → IfSome result (λ reason. IsReasonAt config.now before reason
         × IsNamed before shown reason.impossible) }
+    ensures names { IfSome result (λ reason. reason_names reason
+        ≡ names_by told moments (found_number found)) }
 {
     let Some(last_message) = last_message else {
         return None;
@@ -104,10 +108,11 @@ fn unfinished<A: Allocator + Copy, T: Tracker<A>>(
     sending: Sending,
     last_message: Option<Vec<u8, A>>,
 ) -> Option<Reason<A>>
-    ensures { (records : List ShownRecord) → T.stands_for tracker.now config.now records
+    ensures is { (records : List ShownRecord) → T.stands_for tracker.now config.now records
         → AreSaidBy config.now records told moments sending last_message
         → IfSome result (λ reason. IsReasonAt config.now records reason
         × (reason.impossible ≡ None)) }
+    ensures names { IfSome result (λ reason. reason_names reason ≡ names_by told moments None) }
 {
     records_tell_one_by_one();
     let Some(last_message) = last_message else {
@@ -134,6 +139,7 @@ impl<A: Allocator + Copy> Progress<A> {
     pub(crate) fn new(alloc: A) -> Progress<A>
         ensures told { (config : TheConfig) → IsToldOf config [] result }
         ensures none { result.stop ≡ None }
+        ensures names { progress_names result ≡ no_names }
     {
         Progress {
             count: 0,
@@ -155,6 +161,8 @@ impl<A: Allocator + Copy> Progress<A> {
             → IsToldOf config.now (records ++ shown_of shown.now ∷ []) self.new }
         ensures same { self.new.stop ≡ self.old.stop }
         ensures count { self.new.count ≤ self.old.count + 1 }
+        ensures names { AreNamesAfter (self.old.count + 1) (progress_names self.old)
+            (progress_names self.new) }
     {
         records_tell_one_by_one();
         let state = self.told.state;
@@ -178,9 +186,10 @@ impl<A: Allocator + Copy> Progress<A> {
         shown: &Record<'_>,
     ) -> Option<Found<A>>
         requires { self.now.count < u64.MAX }
-        ensures { (records : List ShownRecord) → T.stands_for tracker.now config.now records
+        ensures found { (records : List ShownRecord) → T.stands_for tracker.now config.now records
             → IsToldOf config.now records self.now
             → IfSome result (IsFound config.now records (shown_of shown.now)) }
+        ensures number { IfSome result (λ found. found.impossible.number ≡ self.now.count + 1) }
     {
         records_tell_one_by_one();
         let Some(last) = &self.last_message else {
@@ -217,6 +226,10 @@ impl<A: Allocator + Copy> Progress<A> {
             → IsAt (T.stands_for tracker.old) config.now records self.old
             → IfOk result (λ done. IsAt (T.stands_for tracker.new) config.now
             (records ++ shown_of shown.now ∷ []) self.new) }
+        ensures names { (records : List ShownRecord)
+            → IsAt (T.stands_for tracker.old) config.now records self.old
+            → AreNamesAfter (length records + 1) (progress_names self.old)
+            (progress_names self.new) }
         ensures err { OnErr result (self.old.stop ≡ None) }
         ensures memory { (records : List ShownRecord)
             → IsAt (T.stands_for tracker.old) config.now records self.old
@@ -248,6 +261,8 @@ impl<A: Allocator + Copy> Progress<A> {
             → IfOk result (λ answer. IsVerdict config.now records answer.0
             × HasReason config.now records answer.0 answer.1
             × AreSummed records answer.0 self.tally self.seen) }
+        ensures names { IfOk result (λ answer. IfSome answer.1 (λ reason.
+            reason_names reason ≡ progress_names self)) }
         ensures err { (records : List ShownRecord)
             → IsAt (T.stands_for tracker.now) config.now records self
             → OnErr result (Begins config.now records) }

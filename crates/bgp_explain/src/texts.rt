@@ -125,7 +125,10 @@ fn put_more<W: Sink, A: Allocator + Copy>(
     ensures { (more : List ℕ) × IsMoreOf config.now explained.now.answer explained.now.reason
         (is_some details.now) explained.now.totals more × Writes lines.old lines.new more }
 {
-    let (places, reason) = (Places::Counted, &explained.reason);
+    let (places, reason) = (
+        Places::Counted(&explained.totals.fractions),
+        &explained.reason,
+    );
     let (style, session) = (
         &Style::plain(first_in(reason), false),
         &config.parts.session,

@@ -1,4 +1,4 @@
-use Rattle.std.proofs.Common.{◌≡◌, List, None, refl, subst}
+use Rattle.std.proofs.Common.{◌≡◌, IfSome, List, None, Option, refl, subst, sym}
 use Rattle.bgp_prefix.specs.Shown.{ShownRecord}
 use Rattle.bgp_open.specs.declared.config.Config.{Config}
 use Rattle.bgp_judge.specs.Verdict.{IsVerdict}
@@ -6,7 +6,9 @@ use Rattle.bgp_judge.specs.declared.verdict.Verdict.{Verdict}
 use Rattle.bgp_judge.specs.declared.verdict.Verdict.TheVariants.{Yes, No, Unfinished}
 use Rattle.bgp_tool.specs.declared.seen.Seen.{Seen}
 use Rattle.bgp_tool.specs.Seen.{seen_in}
+use Rattle.bgp_explain.specs.declared.so_far.Stop.{Stop}
 use Rattle.bgp_explain.specs.declared.tally.Tally.{Tally}
+use Rattle.bgp_explain.specs.Fractions.{names_by, reason_names, stop_number}
 use Rattle.bgp_explain.specs.Progress.{AreSaidBy}
 use Rattle.bgp_explain.specs.Reason.{AreSummed, HasReason}
 use Rattle.bgp_explain.specs.Tally.{tally_of}
@@ -19,7 +21,7 @@ returns-in-Some-clause-is g c = λ records at.
     let said : AreSaidBy c.args.config.now stop.before c.args.self.told c.args.self.moments c.args.self.sending c.args.self.last_message =
     record { told = stop.tells.told; moments = stop.tells.moments; sending = stop.tells.sending; last_message = stop.tells.last_message } in (
       no_is c.args.config.now records c.args.self _ stop,
-      no_for c.args.config.now records c.args.self _ stop g.row.A.Denot c.stopped-reason.result (c.stopped-reason.ensures stop.before stop.shown said stop.found),
+      no_for c.args.config.now records c.args.self _ stop g.row.A.Denot c.stopped-reason.result (c.stopped-reason.ensures.is stop.before stop.shown said stop.found),
       tt,
     )
 
@@ -28,7 +30,7 @@ returns-in-Unfinished-clause-is g c = λ records at.
     let so = none_yet (g.T.Tracker.stands_for c.args.tracker.now) c.args.config.now records c.args.self c.args.self.stop c.in_default.is at in (
       subst (λ verdict. IsVerdict c.args.config.now records verdict) c.in-Unfinished.is (c.in_ok-verdict.ensures c.args.config.now records so.0 so.1),
       unfinished_for c.args.config.now records g.row.A.Denot c.unfinished-reason.result
-          (c.unfinished-reason.ensures records so.0 (record { told = so.2.told; moments = so.2.moments; sending = so.2.sending; last_message = so.2.last_message })),
+          (c.unfinished-reason.ensures.is records so.0 (record { told = so.2.told; moments = so.2.moments; sending = so.2.sending; last_message = so.2.last_message })),
       tt,
     )
 
@@ -52,3 +54,13 @@ returns-in_default-2-clause-is g c = λ records at.
       without g.row.A.Denot c.args.config.now records c.in_ok-verdict.verdict,
       summed records c.in_ok-verdict.verdict c.args.self.tally c.args.self.seen so.2.tally so.2.seen,
     )
+
+pub returns-in-Some-clause-names : goal.returns-in-Some-clause-names
+returns-in-Some-clause-names g c =
+    subst (λ (o : Option (Stop _)). IfSome c.stopped-reason.result (λ reason. reason_names reason ≡ names_by c.args.self.told c.args.self.moments (stop_number o)))
+    (sym c.in-Some.is) c.stopped-reason.ensures.names
+
+pub returns-in-Unfinished-clause-names : goal.returns-in-Unfinished-clause-names
+returns-in-Unfinished-clause-names g c =
+    subst (λ (o : Option (Stop _)). IfSome c.unfinished-reason.result (λ reason. reason_names reason ≡ names_by c.args.self.told c.args.self.moments (stop_number o)))
+    (sym c.in_default.is) c.unfinished-reason.ensures.names
