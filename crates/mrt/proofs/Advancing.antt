@@ -11,7 +11,7 @@ use Rattle.mrt.specs.declared.judging.Shows.TheVariants as shows
 use Rattle.mrt.specs.Layout.{content_in, header_of, body_of}
 use Rattle.mrt.specs.Rules.{Rule, FirstSays, Judgement, judgement_of, Refused}
 use Rattle.mrt.specs.Rules as r
-use Rattle.mrt.specs.Capture.{Piece, Shown, octets_of, IsPiece, ArePieces, IsBegun, last_after, last_of, joined, shown_by, records_of, others_of, shown_of}
+use Rattle.mrt.specs.Capture.{Piece, Shown, octets_of, IsPiece, ArePieces, IsBegun, last_after, last_of, joined, shown_by, records_of, others_of, shown_of, micro_of}
 use Rattle.mrt.specs.Skipped.{IsSkipOf, piece_for, skipped_in, both_skipped}
 use Rattle.mrt.specs.Found.{shown_as}
 use Rattle.mrt.specs.Reading.{IsFoundIn, IsRefused}
@@ -75,16 +75,17 @@ skipped_state from pieces skip octets count len is =
     let last = sym (last_more from.last pieces piece ∙ last_skipped (last_of from.last pieces) skip octets) in
     let others = sym (others_chain from.others pieces (piece ∷ []) ∙ others_skipped (others_of from.others pieces) skip octets is) in
     let skipped = sym (counts_chain from.skipped pieces (piece ∷ []) ∙ counts_one (both_skipped from.skipped (skipped_in pieces)) skip octets is) in
-    λ i. record { passed = passed i; last = last i; place = from.place; is_ended = from.is_ended; fault = from.fault; others = others i; skipped = skipped i }
+    λ i. record { passed = passed i; last = last i; micro = from.micro; place = from.place; is_ended = from.is_ended; fault = from.fault; others = others i; skipped = skipped i }
 
-record_state : (from : ReaderState) (pieces : List Piece) (octets : List ℕ) (second count : ℕ) → length octets ≡ count → second ≡ second_of (shown_of octets)
-    → after_record (after_pieces from pieces) second count ≡ at_record (after_pieces from pieces) (after_pieces from (pieces ++ Shown octets ∷ []))
-record_state from pieces octets second count len same =
+record_state : (from : ReaderState) (pieces : List Piece) (octets : List ℕ) (second count : ℕ) (micro : Option ℕ) → length octets ≡ count
+    → second ≡ second_of (shown_of octets) → micro ≡ micro_of octets
+    → after_record (after_pieces from pieces) second micro count ≡ at_record (after_pieces from pieces) (after_pieces from (pieces ++ Shown octets ∷ [])) octets
+record_state from pieces octets second count micro len same fraction =
     let passed = count_more from pieces (Shown octets) count len in
     let last = ap (λ (s : ℕ). let o : Option ℕ = Some s in o) same ∙ sym (last_more from.last pieces (Shown octets)) in
     let others = sym (others_chain from.others pieces (Shown octets ∷ []) ∙ others_shown (others_of from.others pieces) octets) in
     let skipped = sym (counts_chain from.skipped pieces (Shown octets ∷ []) ∙ counts_shown (both_skipped from.skipped (skipped_in pieces)) octets) in
-    λ i. record { passed = passed i; last = last i; place = (after_pieces from pieces).passed; is_ended = from.is_ended; fault = from.fault; others = others i; skipped = skipped i }
+    λ i. record { passed = passed i; last = last i; micro = fraction i; place = (after_pieces from pieces).passed; is_ended = from.is_ended; fault = from.fault; others = others i; skipped = skipped i }
 
 -- ---- what was found
 
@@ -188,7 +189,7 @@ module _ {S : Type 0} (gives : S → S → List ℕ → Type 0) (has_ended : S �
 
   pub finds_there : (now next : S) (state after : ReaderState) (octets buffer : List ℕ) (found : Found) (count : ℕ) → Passes now state → gives now next octets
       → IsPiece session state.last (Shown octets) → IsFoundIn octets buffer found → count ≡ 12 + found.count
-      → after ≡ after_record state found.second count → Finds gives has_ended session source next from after buffer found
+      → after ≡ after_record state found.second found.micro count → Finds gives has_ended session source next from after buffer found
   finds_there now next state after octets buffer found count so_far given piece there len is = record {
     answers = record {
       skipped = so_far.skipped;
@@ -198,8 +199,8 @@ module _ {S : Type 0} (gives : S → S → List ℕ → Type 0) (has_ended : S �
       shown = found_shown octets buffer found there;
       exactly = more_given now next so_far.skipped (Shown octets) so_far.gave given;
       stands =
-          is ∙ ap (λ (s : ReaderState). after_record s found.second count) so_far.is
-          ∙ record_state from so_far.skipped octets found.second count (there.count ∙ sym len) (found_second octets buffer found there);
+          is ∙ ap (λ (s : ReaderState). after_record s found.second found.micro count) so_far.is
+          ∙ record_state from so_far.skipped octets found.second count found.micro (there.count ∙ sym len) (found_second octets buffer found there) there.micro;
     };
     within = there.within;
     fits = there.fits;

@@ -170,5 +170,6 @@ found_in front body buffer found len whole fits held is =
       content_at = there.content_at;
       within = omega (arith, is.count, is.within);
       second = there.second;
+      micro = there.micro;
       shown = ap (λ (n : ℕ). shown_as n found.shows (content_in (header_of (front ++ body)) (body_of (front ++ body)))) there.second ∙ there.shown;
     }

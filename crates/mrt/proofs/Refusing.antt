@@ -15,7 +15,7 @@ no_pieces from =
     let passed = add-zero from.passed in
     let others = no_others from.others in
     let skipped = no_counts from.skipped in
-    λ i. record { passed = passed i; last = from.last; place = from.place; is_ended = from.is_ended; fault = from.fault; others = others i; skipped = skipped i }
+    λ i. record { passed = passed i; last = from.last; micro = from.micro; place = from.place; is_ended = from.is_ended; fault = from.fault; others = others i; skipped = skipped i }
 
 -- one that lacks room, and has found no fault, has read nothing
 pub first_call : (len : ℕ) (state : ReaderState) → HasRoom len state → len < 65583 → state.fault ≡ None → state ≡ fresh_reader

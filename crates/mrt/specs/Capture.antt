@@ -7,6 +7,7 @@ use Rattle.bgp_prefix.specs.Shown.{ShownRecord, second_of}
 use Rattle.bgp_prefix.specs.declared.session.Session.{Session}
 use Rattle.mrt.specs.contracts.record.EndpointsPartialEq.TheImpl as equality
 use Rattle.mrt.specs.Layout.{IsRecord, header_of, body_of, content_in, peer_in, local_in, shown_in}
+use Rattle.mrt.specs.Layout.{micro_in}
 use Rattle.mrt.specs.Rules.{Judgement, End, Skipped, SkippedSession, SkippedRefresh, Refused}
 use Rattle.mrt.specs.Rules.{OfSession, IsJudged, IsCut, HasLongBody, place_of}
 use Rattle.mrt.specs.declared.fault.FaultKind.{FaultKind}
@@ -42,6 +43,10 @@ ends_of octets = record {
 -- what a record of the session shows
 abbrev pub shown_of : List ℕ → ShownRecord
 shown_of octets = shown_in (header_of octets) (content_in (header_of octets) (body_of octets))
+
+-- the fraction of its second, in microseconds, if it has one
+abbrev pub micro_of : List ℕ → Option ℕ
+micro_of octets = micro_in (header_of octets) (body_of octets)
 
 -- the octets are one record, and judged so, behind a record of the second `last`
 pub record IsPiece (session : Session) (last : Option ℕ) (piece : Piece) : Type 0 where
@@ -84,6 +89,16 @@ shown_by (Shown octets) = shown_of octets ∷ []
 
 abbrev pub records_of : List Piece → List ShownRecord
 records_of pieces = flat_map shown_by pieces
+
+-- and the fractions of their seconds, one for each record
+abbrev pub micros_by : Piece → List (Option ℕ)
+micros_by (Other octets) = []
+micros_by (OtherEnds octets) = []
+micros_by (PassedOver octets) = []
+micros_by (Shown octets) = micro_of octets ∷ []
+
+abbrev pub micros_of : List Piece → List (Option ℕ)
+micros_of pieces = flat_map micros_by pieces
 
 -- the addresses of those that are skipped for their addresses
 abbrev pub other_ends : Piece → List Endpoints

@@ -4,7 +4,7 @@ use Rattle.bgp_prefix.specs.Shown.{ShownRecord, Received, Sent, Changed}
 use Rattle.bgp_prefix.specs.declared.family.Family.{Family}
 use Rattle.bgp_prefix.specs.declared.family.Family.TheVariants.{V4, V6}
 use Rattle.bgp_prefix.specs.declared.session.Session.{Session}
-use Rattle.mrt.specs.Layout.{Header, LacksFields, peer_in, local_in, content_at}
+use Rattle.mrt.specs.Layout.{Header, LacksFields, micro_in, peer_in, local_in, content_at}
 use Rattle.mrt.specs.Layout.{content_in, shown_in}
 use Rattle.mrt.specs.Skipped.{judgement_for, IsSkipOf}
 use Rattle.mrt.specs.Rules as rules
@@ -39,6 +39,7 @@ afi_number V6 = 2
 -- the fields that were read are those of the body
 pub record AreFields (header : Header) (body : List ℕ) (fields : Fields) : Type 0 where
   pub there : ¬ LacksFields header body
+  pub micro : fields.micro ≡ micro_in header body
   pub peer : fields.ends.peer ≡ peer_in header body
   pub local : fields.ends.local ≡ local_in header body
   pub content_at : fields.content_at ≡ content_at header body
@@ -85,6 +86,7 @@ pub record IsFound (header : Header) (body : List ℕ) (found : Found) : Type 0 
   pub content_at : found.content_at ≡ content_at header body
   pub within : found.content_at ≤ length body
   pub second : found.second ≡ header.second
+  pub micro : found.micro ≡ micro_in header body
   pub shown : shown_as header.second found.shows (content_in header body)
       ≡ shown_in header (content_in header body)
 

@@ -17,7 +17,7 @@
 --
 -- The content is a whole BGP message, or an old state and a new one of two octets each.
 use Rattle.std.specs.Prelude.{◌≡◌, ◌≢◌, ◌<◌, ◌≤◌, ◌+◌, ◌*◌, ◌==◌, ◌⊎◌, ℕ, Bool, List, [], ◌∷◌}
-use Rattle.std.specs.Prelude.{length, take, drop, Option, None, Some, if◌then◌else◌}
+use Rattle.std.specs.Prelude.{length, take, drop, nat_lt, Option, None, Some, if◌then◌else◌}
 use Rattle.std.specs.List.{list_any}
 use Rattle.byteorder.specs.Endian.{big_number}
 use Rattle.bgp_prefix.specs.Shown.{ShownRecord, Received, Sent, Changed}
@@ -98,6 +98,14 @@ abbrev pub as_width : ℕ → ℕ
 as_width subtype = if is_of subtype (4 ∷ 5 ∷ 7 ∷ 9 ∷ 11 ∷ []) then 4 else 2
 
 -- ---- the body
+
+-- The fraction of the record's second, in microseconds: the four octets at the front, where the type
+-- is BGP4MP_ET (RFC 6396, 3). A number that isn't below 1,000,000 is no fraction.
+unfoldable pub micro_in : Header → List ℕ → Option ℕ
+micro_in header body =
+    if header.kind == 17
+    then (if nat_lt (big_number 4 body) 1000000 then Some (big_number 4 body) else None)
+    else None
 
 -- where the AFI stands
 abbrev pub afi_at : Header → ℕ

@@ -21,6 +21,7 @@ abbrev pub state_of : Progress → ReaderState
 state_of progress = record {
   passed = progress.passed;
   last = progress.last;
+  micro = progress.micro;
   place = progress.place;
   is_ended = progress.is_ended;
   fault = progress.fault;
@@ -47,10 +48,11 @@ after_skipped state skip count = record state {
 }
 
 -- behind one of the session
-abbrev pub after_record : ReaderState → ℕ → ℕ → ReaderState
-after_record state second count = record state {
+abbrev pub after_record : ReaderState → ℕ → Option ℕ → ℕ → ReaderState
+after_record state second micro count = record state {
   passed = state.passed + count;
   last = Some second;
+  micro = micro;
   place = state.passed;
 }
 

@@ -6,7 +6,7 @@ use Rattle.std.specs.Prelude.{Option, None, Some, Result, Ok, Err, IsTrue, is_so
 use Rattle.bgp_prefix.specs.Shown.{ShownRecord, Received, Sent, Changed}
 use Rattle.bgp_prefix.specs.declared.session.Session.{Session}
 use Rattle.mrt.specs.Capture.{Piece, Shown, ArePieces, IsBegun, last_of, joined, records_of}
-use Rattle.mrt.specs.Capture.{others_of}
+use Rattle.mrt.specs.Capture.{others_of, micro_of}
 use Rattle.mrt.specs.Capture as capture
 use Rattle.mrt.specs.Skipped.{skipped_in, none_skipped, both_skipped}
 use Rattle.mrt.specs.Fault.{fault_number}
@@ -26,12 +26,13 @@ shown_of (records.Out second octets) = Sent second octets.now
 shown_of (records.Change second old new) = Changed second old new
 
 -- How a reader stands: how many octets the records have that it answered or skipped; the second of
--- the session's last record; where what it last answered begins; whether it told the end; the fault
--- that it found; the first nine different pairs of addresses for which it skipped a record; how
--- many it skipped.
+-- the session's last record; the fraction of that, in microseconds, if it has one; where what it
+-- last answered begins; whether it told the end; the fault that it found; the first nine different
+-- pairs of addresses for which it skipped a record; how many it skipped.
 pub record ReaderState : Type 0 where
   pub passed : ℕ
   pub last : Option ℕ
+  pub micro : Option ℕ
   pub place : ℕ
   pub is_ended : Bool
   pub fault : Option CaptureFault
@@ -47,6 +48,7 @@ abbrev pub fresh_reader : ReaderState
 fresh_reader = record {
   passed = 0;
   last = None;
+  micro = None;
   place = 0;
   is_ended = false;
   fault = None;
@@ -68,15 +70,16 @@ after_pieces state pieces = record state {
   skipped = both_skipped state.skipped (skipped_in pieces);
 }
 
--- one that answers the end, a fault, or the record behind what it had passed
+-- one that answers the end, a fault, or the record of these octets behind what it had passed
 abbrev pub at_end : ReaderState → ReaderState
 at_end state = record state { place = state.passed; is_ended = true }
 
 abbrev pub at_fault : ReaderState → CaptureFault → ReaderState
 at_fault state fault = record state { place = state.passed; fault = Some fault }
 
-abbrev pub at_record : ReaderState → ReaderState → ReaderState
-at_record before state = record state { place = before.passed }
+abbrev pub at_record : ReaderState → ReaderState → List ℕ → ReaderState
+at_record before state octets =
+    record state { place = before.passed; micro = micro_of octets }
 
 -- What a call answers, that reads on from `from` for a session, over a source that goes from `old`
 -- to `new`. The members are the source's.
@@ -93,6 +96,7 @@ module _ {S : Type 0} (gives : S → S → List ℕ → Type 0) (has_ended : S �
     pub exactly : gives old new (joined (skipped ++ Shown octets ∷ []))
     pub stands : after
         ≡ at_record (after_pieces from skipped) (after_pieces from (skipped ++ Shown octets ∷ []))
+        octets
 
   -- They are those of skipped records, and the source has ended.
   pub record Ends (old new : S) (from after : ReaderState) : Type 0 where

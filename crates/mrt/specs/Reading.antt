@@ -4,7 +4,7 @@ use Rattle.std.specs.Prelude.{Option}
 use Rattle.bgp_prefix.specs.declared.session.Session.{Session}
 use Rattle.mrt.specs.Layout.{header_of, body_of, content_in, content_at}
 use Rattle.mrt.specs.Rules.{Refused, IsJudged}
-use Rattle.mrt.specs.Capture.{Shown, IsPiece, shown_of}
+use Rattle.mrt.specs.Capture.{Shown, IsPiece, shown_of, micro_of}
 use Rattle.mrt.specs.Skipped.{piece_for, IsSkipOf}
 use Rattle.mrt.specs.Found.{shown_as}
 use Rattle.mrt.specs.declared.fault.FaultKind.{FaultKind}
@@ -27,6 +27,7 @@ pub record IsFoundIn (octets buffer : List ℕ) (found : Found) : Type 0 where
   pub content_at : found.content_at ≡ content_at (header_of octets) (body_of octets)
   pub within : found.content_at ≤ found.count
   pub second : found.second ≡ (header_of octets).second
+  pub micro : found.micro ≡ micro_of octets
   pub shown : shown_as found.second found.shows
       (content_in (header_of octets) (body_of octets)) ≡ shown_of octets
 

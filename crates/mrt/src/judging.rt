@@ -34,6 +34,8 @@ pub enum Shows {
 pub struct Found {
     /// Its second.
     pub second: Seconds,
+    /// The fraction of that, in microseconds, if it has one ([`Fields`](crate::Fields)).
+    pub micro: Option<u32>,
     /// What it shows.
     pub shows: Shows,
     /// Where the content begins in the body: the message, or the two states.
@@ -248,6 +250,7 @@ pub fn judge(header: &RecordHeader, body: &[u8], session: &Session, last: Option
     match read_content(form, header, content, session, last) {
         Content::Shown(shows) => Judged::OfSession(Found {
             second: header.second,
+            micro: fields.micro,
             shows,
             content_at: fields.content_at,
             count: body.len(),

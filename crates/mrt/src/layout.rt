@@ -4,7 +4,7 @@
 
 ghost use Rattle.std.specs.Prelude.{◌≡◌, ◌≢◌, ◌↔◌, ◌≤◌, ◌+◌, IsTrue, IfSome, IfNone, length};
 ghost use Rattle.mrt.specs.Layout.{header_in, second_in, kind_in, subtype_in, count_in};
-ghost use Rattle.mrt.specs.Layout.{IsBgp4mp, form_of, as_width, afi_at, afi_in};
+ghost use Rattle.mrt.specs.Layout.{IsBgp4mp, form_of, as_width, micro_in, afi_at, afi_in};
 ghost use Rattle.mrt.specs.Layout.{address_len, address_in, LacksFields};
 ghost use Rattle.mrt.specs.Layout.{old_state_in, new_state_in};
 ghost use Rattle.mrt.specs.Found.{header_value, afi_number, AreFields};
@@ -195,9 +195,25 @@ fn read_address(family: Family, octets: &[u8]) -> Address
     }
 }
 
+/// Reads the fraction of the second, where the type has microseconds.
+#[tactic(auto, unfolding(crate::specs::Layout::micro_in))]
+fn read_micro(header: &RecordHeader, body: &[u8]) -> Option<u32>
+    requires { afi_at (header_value header.now) ≤ length body.now }
+    ensures { result ≡ micro_in (header_value header.now) body.now }
+{
+    if header.kind != BGP4MP_ET {
+        return None;
+    }
+    let number = BigEndian::read_u32(body);
+    (number < 1_000_000).then_some(number)
+}
+
 /// What stands in a body before its content.
 #[derive(Clone, Copy, Debug)]
 pub struct Fields {
+    /// The fraction of the record's second, in microseconds: below 1,000,000. None where the type
+    /// is BGP4MP, or the number is no fraction.
+    pub micro: Option<u32>,
     /// The addresses.
     pub ends: Endpoints,
     /// Where the content begins.
@@ -219,6 +235,7 @@ pub fn read_fields(header: &RecordHeader, body: &[u8]) -> Option<Fields>
         return None;
     }
     Some(Fields {
+        micro: read_micro(header, body),
         ends: Endpoints {
             peer: read_address(family, body.split_at(at + 2).1),
             local: read_address(family, body.split_at(at + 2 + count).1),

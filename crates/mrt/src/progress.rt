@@ -16,6 +16,8 @@ pub(crate) struct Progress {
     pub(crate) passed: u64,
     /// The second of the session's last record.
     pub(crate) last: Option<Seconds>,
+    /// The fraction of that, in microseconds, if it has one.
+    pub(crate) micro: Option<u32>,
     /// Where what it last answered begins.
     pub(crate) place: u64,
     /// Whether it told the end.
@@ -42,6 +44,7 @@ impl Progress {
         Progress {
             passed: 0,
             last: None,
+            micro: None,
             place: 0,
             is_ended: false,
             fault: None,
@@ -64,13 +67,14 @@ impl Progress {
     }
 
     /// Passes a record of the session, to answer it.
-    pub(crate) fn answer(&mut self, second: Seconds, count: u64)
+    pub(crate) fn answer(&mut self, second: Seconds, micro: Option<u32>, count: u64)
         requires { self.old.passed + count < 2 ^ 64 }
-        ensures { state_of self.new ≡ after_record (state_of self.old) second count }
+        ensures { state_of self.new ≡ after_record (state_of self.old) second micro count }
     {
         self.place = self.passed;
         self.passed += count;
         self.last = Some(second);
+        self.micro = micro;
     }
 
     /// Ends.

@@ -46,7 +46,7 @@ fn advance<S: Source>(
             Ok(Read::Skipped(skip, count)) => progress.skip(skip, count),
             Ok(Read::Refused(kind)) => return Err(progress.refuse(kind)),
             Ok(Read::OfSession(found)) => {
-                progress.answer(found.second, (HEADER + found.count) as u64);
+                progress.answer(found.second, found.micro, (HEADER + found.count) as u64);
                 return Ok(Some(found));
             }
             Err(_) => return Err(progress.refuse(FaultKind::Device)),
@@ -152,6 +152,14 @@ impl<A: Allocator + Copy> Reader<A> {
         ensures { result ≡ self.now.skipped }
     {
         self.progress.skipped
+    }
+
+    /// Returns the fraction of the second of the record that it answered last, in microseconds:
+    /// below 1,000,000. None where the record has none, or no record was answered.
+    pub fn micro(&self) -> Option<u32>
+        ensures { result ≡ self.now.micro }
+    {
+        self.progress.micro
     }
 
     /// Whether a record of the session was answered.

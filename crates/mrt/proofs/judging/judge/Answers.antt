@@ -35,6 +35,7 @@ returns-in-Shown c =
         content_at = fields.content_at;
         within = fields.within;
         second = refl;
+        micro = fields.micro;
         shown =
             subst (λ (x : List ℕ). shown_as c.args.header.now.second c.in-Shown.shows x ≡ shown_in (header_value c.args.header.now) x)
             content is.1;
