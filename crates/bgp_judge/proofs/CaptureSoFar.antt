@@ -68,7 +68,7 @@ module _ {S : Type 0} (gives : S → S → List ℕ → Type 0) (has_ended : S �
     pub going : state.is_ended ≡ false
     pub shown : records_of pieces ≡ records
 
-  pub nothing_read : (state : ReaderState) → state ≡ fresh_reader → gives source source [] → SoFar source state []
+  unfoldable pub nothing_read : (state : ReaderState) → state ≡ fresh_reader → gives source source [] → SoFar source state []
   nothing_read state fresh nothing = record {
     pieces = [];
     each = tt;
@@ -127,7 +127,7 @@ module _ {S : Type 0} (gives : S → S → List ℕ → Type 0) (has_ended : S �
       records_chain so_far.pieces more ∙ ap (λ (r : List ShownRecord). records_of so_far.pieces ++ r) only ∙ append-nil (records_of so_far.pieces) ∙ so_far.shown
 
   -- one record more
-  pub answered : (now next : S) (state after : ReaderState) (records : List ShownRecord) (shown : ShownRecord) → SoFar now state records
+  unfoldable pub answered : (now next : S) (state after : ReaderState) (records : List ShownRecord) (shown : ShownRecord) → SoFar now state records
       → Answers gives has_ended config.parts.session now next state after shown → SoFar next after (records ++ shown ∷ [])
   answered now next state after records shown so_far answer =
       let more = answer.skipped ++ Shown answer.octets ∷ [] in

@@ -19,6 +19,7 @@ pub struct NamedRecord<'a> {
 
 impl<'a> NamedRecord<'a> {
     ghost use Rattle.std.specs.Prelude.{◌≡◌};
+    ghost use Rattle.mrt.specs.Capture.{micro_of};
     ghost use Rattle.mrt.specs.Found.{header_value};
     ghost use Rattle.mrt.specs.Layout.{body_of, content_in, header_of};
     ghost use Rattle.mrt_sessions.specs.File.{addresses_of};
@@ -35,6 +36,16 @@ impl<'a> NamedRecord<'a> {
         ensures { result.now ≡ body_of self.now.octets.now }
     {
         self.octets.split_at(HEADER).1
+    }
+
+    /// Returns the fraction of its second, in microseconds: below 1,000,000. None where it has none.
+    pub fn micro(&self) -> Option<u32>
+        ensures { result ≡ micro_of self.now.octets.now }
+    {
+        match read_fields(&self.header(), self.body()) {
+            Some(fields) => fields.micro,
+            None => unreachable!(),
+        }
     }
 
     /// The addresses that it names.

@@ -3,6 +3,7 @@
 mod alike;
 mod captures;
 mod extended;
+mod fractions;
 mod refreshes;
 mod sessions;
 mod written;
