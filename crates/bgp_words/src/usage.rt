@@ -19,7 +19,7 @@ const NEAR: usize = 2;
 /// for help or for the version stays as it is.
 pub(crate) fn plain<'a, S: AsStr>(
     alloc: Global,
-    program: Command<'a>,
+    program: &Command<'a>,
     words: &'a [S],
     error: Error,
 ) -> Result<Error, AllocError>
@@ -35,15 +35,28 @@ pub(crate) fn plain<'a, S: AsStr>(
 /// Says what is wrong with words that have a fault of this kind.
 fn of_program<'a, S: AsStr>(
     alloc: Global,
-    program: Command<'a>,
+    program: &Command<'a>,
     words: &'a [S],
     kind: ErrorKind,
 ) -> Result<Error, AllocError>
     ensures { IfOk result (λ it. kind_of it ≡ kind) }
 {
-    let misfit = program_misfit(alloc, &program, words)?;
+    let misfit = program_misfit(alloc, program, words)?;
+    error_of(alloc, command_name(words), misfit, kind)
+}
+
+/// The error of this kind that says in a sentence what is wrong with the words of the command of
+/// this name, or of the program if there is none, and then its usage.
+pub(crate) fn error_of(
+    alloc: Global,
+    name: Option<&str>,
+    misfit: Misfit<'_>,
+    kind: ErrorKind,
+) -> Result<Error, AllocError>
+    ensures { IfOk result (λ it. kind_of it ≡ kind) }
+{
     let sentence = format!(in alloc; "{misfit}")?;
-    let mut command = words_named(alloc, command_name(words))?;
+    let mut command = words_named(alloc, name)?;
     command.error(kind, sentence.as_str())
 }
 
