@@ -78,13 +78,20 @@ fn fronts_of(records: &[Record<'_>]) -> Fronts
     Fronts { shortest, last }
 }
 
+/// Whether the state is Established.
+fn is_established(state: Fsm) -> bool
+    ensures { IsTrue result ↔ (state ≡ Fsm.Established) }
+{
+    matches!(state, Fsm::Established)
+}
+
 /// Whether there are ends and the first is in Established: then all are, since the records tell in
 /// which state they end.
 fn starts_established<A: Allocator>(ends: &[End<A>]) -> bool
     ensures { IsTrue result ↔ StartsEstablished (map end_value ends.now) }
 {
     match ends.first() {
-        Some(end) => matches!(end.fsm, Fsm::Established),
+        Some(end) => is_established(end.fsm),
         None => false,
     }
 }

@@ -53,7 +53,7 @@ reached_by-requires g c =
     let leaving = option_map shown_of c.args.leaving in
     let told = c.in_ok-told.told in
     let own = ap (λ (rs : List ShownRecord). with_leaving rs leaving) c.own_records-own.ensures
-        ∙ all_judged c.args.view.now.session (map shown_of c.args.stretch.now) (length c.args.stretch.now) leaving (told_value told) c.in_ok-told.ensures.told in (
+    ∙ all_judged c.args.view.now.session (map shown_of c.args.stretch.now) (length c.args.stretch.now) leaving (told_value told) c.in_ok-told.ensures.told in (
       leaving,
       subst (λ (rs : List ShownRecord). IsWatchedFor rs (answer_value told.answer) (option_map front_value told.before)) (sym own) c.in_ok-told.ensures.before,
     )
