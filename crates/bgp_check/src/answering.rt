@@ -137,9 +137,8 @@ fn judge_end<A: Allocator + Copy, T: Tracker<A>>(
 }
 
 /// Answers as [`check_end`] does, and tells the longest front of the records that has an end in
-/// Established, under the configuration of the verdict. It is known unless memory is refused for it,
-/// the verdict is a no, or Established is told behind all records: what is judged is watched, and
-/// nothing is judged for it.
+/// Established, under the configuration of the verdict. Nothing is judged for it: what is judged is
+/// watched ([`watch_records`](bgp_watch::watch_records)), which says when it is known.
 pub fn watch_end<A: Allocator + Copy, T: Tracker<A>>(
     alloc: A,
     session: &Session,

@@ -9,8 +9,8 @@ ghost use Rattle.bgp_judge.specs.Verdict.{Yes, verdict_value};
 ghost use Rattle.bgp_check.specs.Answered.{answer_value};
 ghost use Rattle.bgp_check_text.specs.Reached.{AreBefore, AreBeforeIf, AreBeforeOf, AreBeforeTo};
 ghost use Rattle.bgp_check_text.specs.Reached.{AreOfLongestFront, IsKnown, IsKnownFor, IsLowerTo};
-ghost use Rattle.bgp_check_text.specs.Reached.{IsLowerYes, IsNoYes, IsReached, counts_of, has_lower};
-ghost use Rattle.bgp_check_text.specs.Reached.{reached_value, with_count};
+ghost use Rattle.bgp_check_text.specs.Reached.{IsLowerYes, IsNoYes, IsReached, counts_of};
+ghost use Rattle.bgp_check_text.specs.Reached.{has_lower, reached_value, with_count};
 ghost use Rattle.bgp_open.specs.declared.config.Config.{Config as TheConfig};
 ghost use Rattle.bgp_watch.specs.Front.{front_value};
 

@@ -1,5 +1,5 @@
-//! The longest front of a session's records that has an end in Established, found while the records
-//! are judged: so it is known what stood before the session left that state, and no record is judged
+//! The longest front of a session's records that has an end in Established, found while they are
+//! judged: so it is known what stood before the session left that state, and no record is judged
 //! once more.
 //!
 //! ```text

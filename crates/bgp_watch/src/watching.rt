@@ -64,8 +64,8 @@ fn leaving_records(records: &[Record<'_>]) -> usize {
     }
 }
 
-/// Returns which fronts of the records are looked at: none if Established is told behind all of them
-/// or never.
+/// Returns which fronts of the records are looked at: none if Established is told behind all of
+/// them.
 fn fronts_of(records: &[Record<'_>]) -> Fronts
     ensures { IsLastTold (map shown_of records.now) result.last }
 {
@@ -96,9 +96,9 @@ fn starts_established<A: Allocator>(ends: &[End<A>]) -> bool
     }
 }
 
-/// Returns the longest front that has an end in Established, if it is known, of so many records that
-/// the tracker stands for; this one was known before the last of them. If memory is refused for the
-/// ends, none is known.
+/// Returns the longest front that has an end in Established, if it is known, of so many records
+/// that the tracker stands for; this one was known before the last of them. If memory is refused
+/// for the ends, none is known.
 fn with_front<A: Allocator + Copy, T: Tracker<A>>(
     tracker: &T,
     fronts: Fronts,
