@@ -189,7 +189,7 @@ fn stream_of<'a>(decode: &ArgMatches<'a>) -> Result<Command<'a>, Misfit<'a>>
         return Err(Misfit::Missing { name: "mrt" });
     }
     if has_flag(decode, "skip-refresh") {
-        return Err(Misfit::SkipsInStream);
+        return Err(Misfit::SKIPS_IN_STREAM);
     }
     Ok(Command::Decode {
         form,
@@ -207,7 +207,7 @@ fn form_of<'a>(decode: &ArgMatches<'a>) -> Result<OutputForm, Misfit<'a>>
     let names = has_flag(decode, "names");
     if has_flag(decode, "json") {
         if names {
-            return Err(Misfit::TwoForms);
+            return Err(Misfit::TWO_FORMS);
         }
         return Ok(OutputForm::Json { as2 });
     }
@@ -215,7 +215,7 @@ fn form_of<'a>(decode: &ArgMatches<'a>) -> Result<OutputForm, Misfit<'a>>
         return Ok(OutputForm::Text(LineForm::Names { as2 }));
     }
     if as2 {
-        return Err(Misfit::As2Alone);
+        return Err(Misfit::AS2_ALONE);
     }
     Ok(OutputForm::Text(LineForm::Plain))
 }

@@ -88,11 +88,11 @@ pub(crate) fn import_of<'a>(import: &ArgMatches<'a>) -> Result<Command<'a>, Misf
     let refresh = refresh_of(import, false);
     let session = session_of(import, refresh)?;
     if !is_of_one_family(&session) {
-        return Err(Misfit::TwoFamilies);
+        return Err(Misfit::TWO_FAMILIES);
     }
     let recording = recording_of(import)?;
     if !are_apart(&session, recording.local_port) {
-        return Err(Misfit::OneAddress);
+        return Err(Misfit::ONE_ADDRESS);
     }
     let file = value_of(import, "FILE")?;
     let out = value_of(import, "OUT")?;

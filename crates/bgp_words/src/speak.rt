@@ -128,7 +128,7 @@ pub(crate) fn speak_of<'a>(speak: &ArgMatches<'a>) -> Result<Command<'a>, Misfit
 {
     let config = config_of(speak, RouteRefresh::NotOffered)?;
     if !is_of_one_family(&config.parts.session) {
-        return Err(Misfit::TwoFamilies);
+        return Err(Misfit::TWO_FAMILIES);
     }
     let speaking = speaking_of(speak)?;
     let file = value_of(speak, "FILE")?;
@@ -162,12 +162,12 @@ fn start_of<'a>(speak: &ArgMatches<'a>) -> Result<Start, Misfit<'a>>
 {
     if has_value(speak, "connect") {
         if has_value(speak, "listen") {
-            return Err(Misfit::TwoStarts);
+            return Err(Misfit::TWO_STARTS);
         }
         return Ok(Start::Connect(port_of(speak, "connect")?));
     }
     if has_value(speak, "listen") {
         return Ok(Start::Listen(port_of(speak, "listen")?));
     }
-    Err(Misfit::NoStart)
+    Err(Misfit::NO_START)
 }

@@ -137,7 +137,7 @@ bgp COMMAND --help says what a command prints, with examples.
 The manual is docs/bgp.1.md, at the top of the repository.";
 
 /// What the program's words may be.
-fn program<'a>(alloc: Global) -> Result<clap::Command<'a>, AllocError>
+pub(crate) fn program<'a>(alloc: Global) -> Result<clap::Command<'a>, AllocError>
     ensures { IfOk result (λ program. app_of program ≡ program_words) }
 {
     let program = new_command(
@@ -244,10 +244,7 @@ fn matches_by<'a, S: AsStr>(
 {
     match program.try_get_matches_from(words) {
         Ok(matches) => Ok(matches),
-        Err(error) => {
-            let program = crate::words::program(alloc)?;
-            Err(plain(alloc, &program, words, error)?)
-        }
+        Err(error) => Err(plain(alloc, words, error)?),
     }
 }
 
@@ -282,7 +279,7 @@ fn named<'a>(matches: &ArgMatches<'a>) -> Result<Command<'a>, Misfit<'a>>
     }
     match matches.subcommand_matches("pair") {
         Some(pair) => pair_of(pair),
-        None => Err(Misfit::NoCommand),
+        None => Err(Misfit::NO_COMMAND),
     }
 }
 
@@ -304,13 +301,39 @@ pub(crate) fn words_named<'a>(
     name: Option<&str>,
 ) -> Result<clap::Command<'a>, AllocError> {
     match name {
-        Some("decode") => decode_words(alloc)?.bin_name("bgp decode"),
-        Some("judge") => judge_words(alloc)?.bin_name("bgp judge"),
-        Some("import") => import_words(alloc)?.bin_name("bgp import"),
-        Some("list") => list_words(alloc)?.bin_name("bgp list"),
-        Some("check") => check_words(alloc)?.bin_name("bgp check"),
-        Some("speak") => speak_words(alloc)?.bin_name("bgp speak"),
-        Some("pair") => pair_words(alloc)?.bin_name("bgp pair"),
+        Some(name) => reader_named(alloc, name),
+        None => program(alloc),
+    }
+}
+
+/// The same of a command that reads a file, or of another one.
+fn reader_named<'a>(alloc: Global, name: &str) -> Result<clap::Command<'a>, AllocError> {
+    match name {
+        "decode" => with_bin_name(decode_words(alloc), "bgp decode"),
+        "judge" => with_bin_name(judge_words(alloc), "bgp judge"),
+        "import" => with_bin_name(import_words(alloc), "bgp import"),
+        "list" => with_bin_name(list_words(alloc), "bgp list"),
+        "check" => with_bin_name(check_words(alloc), "bgp check"),
+        _ => speaker_named(alloc, name),
+    }
+}
+
+/// The same of a command that speaks, or of no command.
+fn speaker_named<'a>(alloc: Global, name: &str) -> Result<clap::Command<'a>, AllocError> {
+    match name {
+        "speak" => with_bin_name(speak_words(alloc), "bgp speak"),
+        "pair" => with_bin_name(pair_words(alloc), "bgp pair"),
         _ => program(alloc),
+    }
+}
+
+/// A command as its usage names it, if there was memory for it.
+fn with_bin_name<'a>(
+    command: Result<clap::Command<'a>, AllocError>,
+    name: &str,
+) -> Result<clap::Command<'a>, AllocError> {
+    match command {
+        Ok(command) => command.bin_name(name),
+        Err(error) => Err(error),
     }
 }

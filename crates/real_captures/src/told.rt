@@ -23,7 +23,7 @@ use bgp_tool::{
 use bgp_vectors::config_of;
 use mrt::{FromWrite, SkippedRecords};
 use std::alloc::{AllocError, Global};
-use std::fmt;
+use std::fmt::{Display, Write};
 use std::io::{self, ErrorKind};
 
 /// The errors of devices, by their names.
@@ -146,30 +146,44 @@ fn ended<'a, T: Tracker<Global>>(
 
 /// Whether a command ends with the status, the skipped records and the sentences of its block.
 fn is_outcome(alloc: Global, block: &str, judged: &JudgedCapture<'_>) -> Result<bool, AllocError> {
-    let JudgedCapture {
-        outcome,
-        confederation,
-        left_out,
-    } = judged;
+    let outcome = &judged.outcome;
     let mut told = String::new(alloc);
-    if let Some(skipped) = outcome.skipped {
-        let (received, sent) = passed_over(&skipped);
-        told.push_str(told_of(alloc, received)?.as_str())?;
-        told.push_str(told_of(alloc, sent)?.as_str())?;
-    }
-    if *confederation {
-        told.push_str(told_of(alloc, Some(Note::Confederation))?.as_str())?;
-    }
-    if let Some(offer) = left_out.without {
-        told.push_str(told_of(alloc, Some(Note::Without { offer }))?.as_str())?;
-    }
-    told.push_str(told_of(alloc, outcome.note)?.as_str())?;
+    put_told(&mut told, judged)?;
     let status = line_of(block, "status ").and_then(|status| status.parse::<u8>().ok());
     Ok(
         status == Some(outcome.status)
             && are_skipped(alloc, block, outcome.skipped)?
             && are_lines(alloc, block, "! ", told.as_str())?,
     )
+}
+
+/// Puts the sentences that are told of a command.
+fn put_told(told: &mut String, judged: &JudgedCapture<'_>) -> Result<(), AllocError> {
+    let JudgedCapture {
+        outcome,
+        confederation,
+        left_out,
+    } = judged;
+    if let Some(skipped) = outcome.skipped {
+        let (received, sent) = passed_over(&skipped);
+        put_sentence(told, received)?;
+        put_sentence(told, sent)?;
+    }
+    if *confederation {
+        put_sentence(told, Some(Note::Confederation))?;
+    }
+    if let Some(offer) = left_out.without {
+        put_sentence(told, Some(Note::Without { offer }))?;
+    }
+    put_sentence(told, outcome.note)
+}
+
+/// Puts a sentence and the end of its line: nothing if there is none.
+fn put_sentence<T: Display + Drop>(told: &mut String, note: Option<T>) -> Result<(), AllocError> {
+    match note {
+        Some(note) => write!(told, "{note}\n"),
+        None => Ok(()),
+    }
 }
 
 /// Whether so many records were skipped, if the block says how many.
@@ -186,14 +200,6 @@ fn are_skipped(
             Ok(text.as_str() == line)
         }
         (line, _) => Ok(line.is_none()),
-    }
-}
-
-/// A sentence, and the end of its line: nothing where there is none.
-fn told_of<T: fmt::Display + Drop>(alloc: Global, note: Option<T>) -> Result<String, AllocError> {
-    match note {
-        Some(note) => format!(in alloc; "{note}\n"),
-        None => Ok(String::new(alloc)),
     }
 }
 
