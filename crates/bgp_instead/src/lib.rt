@@ -9,7 +9,9 @@
 #![tactic(auto)]
 
 mod asking;
+mod laws;
 mod sendable;
 
 pub use asking::{MOST_ASKED, sendable_instead};
+pub use laws::each_message_is_of_a_kind;
 pub use sendable::Sendable;
