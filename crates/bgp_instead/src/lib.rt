@@ -9,9 +9,11 @@
 #![tactic(auto)]
 
 mod asking;
+mod connection;
 mod laws;
 mod sendable;
 
 pub use asking::{MOST_ASKED, sendable_instead};
+pub use connection::sendable_over_orders;
 pub use laws::each_message_is_of_a_kind;
 pub use sendable::Sendable;

@@ -113,6 +113,8 @@ fn expected(index: usize) -> Option<Sendable> {
         // The header with a bad length is overdue, and then the UPDATE at fault.
         1 => Some(bad_length()),
         4 => Some(with_malformed(NOTHING)),
+        // Both UPDATEs are overdue, and the second can't be read before the first is answered.
+        7 => Some(NOTHING),
         // The UPDATE at fault may be read or not.
         8 => Some(with_malformed(established())),
         // The HoldTimer was set again; a second OPEN.
