@@ -34,3 +34,4 @@ pub mod Stretched
 pub mod Places
 pub mod Left
 pub mod Named
+pub mod Watched

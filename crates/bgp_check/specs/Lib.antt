@@ -18,6 +18,7 @@ pub mod Over
 pub mod Checked
 pub mod Memory
 pub mod Answered
+pub mod WatchedEnd
 pub mod SessionOffers
 pub mod BeforeLeaving
 pub mod Passed

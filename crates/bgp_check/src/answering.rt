@@ -3,14 +3,15 @@
 ghost use Rattle.std.specs.Prelude.{◌≡◌, IfOk, OnErr, IfSome, None, Option, map, option_map};
 ghost use Rattle.bgp_open.specs.Open.{OpenFields};
 ghost use Rattle.bgp_open.specs.OpenFault.{IsWellFormed};
-ghost use Rattle.bgp_judge.specs.Verdict.{verdict_value};
 ghost use Rattle.mrt.specs.Reader.{shown_of};
-ghost use Rattle.bgp_check.specs.Answered.{IsAnswerTo, IsJudged, answer_value, heard_as, number_of};
+ghost use Rattle.bgp_check.specs.Answered.{IsAnswerTo, answer_value, heard_as, number_of};
 ghost use Rattle.bgp_check.specs.Answered.{peer_as_by};
 ghost use Rattle.bgp_check.specs.Memory.{LacksMemoryAtEnd};
 ghost use Rattle.bgp_check.specs.NotJudged.{IsWhyNot};
+ghost use Rattle.bgp_check.specs.WatchedEnd.{IsWatchedFor};
 ghost use Rattle.bgp_parts.specs.Opens.{HasOwnOpen, HasPeersOpen};
 ghost use Rattle.bgp_check.specs.WidestOf.{AreTold, OffersNone};
+ghost use Rattle.bgp_watch.specs.Front.{front_value};
 
 use crate::checking::check_records;
 use crate::laws::{an_own_fault_is_a_no, what_is_told_holds_over_all, widest_settings_are_widest};
@@ -22,6 +23,7 @@ use crate::widest::{Widest, widest_of};
 use bgp_judge::{Tracker, Verdict};
 use bgp_open::{Config, read_fields};
 use bgp_prefix::Session;
+use bgp_watch::Front;
 use mrt::Record;
 use std::alloc::{AllocError, Allocator, Global};
 
@@ -45,6 +47,16 @@ pub enum Answer<A: Allocator = Global> {
     NotJudged(NotJudged),
     /// It is.
     Judged(Judged<A>),
+}
+
+/// What is answered of an end of a session, and where that stood before it was left.
+#[derive(Drop)]
+pub struct WatchedEnd<A: Allocator = Global> {
+    /// What is answered.
+    pub answer: Answer<A>,
+    /// Under the configuration of the verdict the longest front of the records that has an end in
+    /// Established, if it is known.
+    pub before: Option<Front<A>>,
 }
 
 /// The AS number that an OPEN tells.
@@ -91,15 +103,17 @@ fn judge_end<A: Allocator + Copy, T: Tracker<A>>(
     own: Option<&[u8]>,
     peers: Option<&[u8]>,
     records: &[Record<'_>],
-) -> Result<Judged<A>, AllocError>
+) -> Result<WatchedEnd<A>, AllocError>
     requires own { HasOwnOpen (map shown_of records.now) (option_map (λ o. o.now) own) }
     requires form { IfSome own (λ o. IsWellFormed o.now) }
     requires peers { HasPeersOpen (map shown_of records.now)
         (option_map (λ o. o.now) peers) }
     requires none { IsWhyNot (map shown_of records.now) None }
     requires family { ¬ OffersNone (option_map (λ o. o.now) own) }
-    ensures judged { IfOk result (λ judged. IsJudged session.now (map shown_of records.now)
-        judged.as_number judged.peer_as judged.under (verdict_value judged.verdict)) }
+    ensures judged { IfOk result (λ watched.
+        IsAnswerTo session.now (map shown_of records.now) (answer_value watched.answer)) }
+    ensures before { IfOk result (λ watched. IsWatchedFor (map shown_of records.now)
+        (answer_value watched.answer) (option_map front_value watched.before)) }
     ensures memory { OnErr result (LacksMemoryAtEnd T.may_lack_at_start T.may_lack session.now
         (map shown_of records.now)) }
 {
@@ -110,12 +124,42 @@ fn judge_end<A: Allocator + Copy, T: Tracker<A>>(
         unreachable!();
     };
     let checked = check_records::<A, T>(alloc, &widest, records)?;
-    Ok(Judged {
+    let judged = Judged {
         as_number: number_of(own),
         peer_as: peer_as(checked.wants_peers, peers, heard_as(&widest)),
         under: checked.under,
         verdict: checked.verdict,
+    };
+    Ok(WatchedEnd {
+        answer: Answer::Judged(judged),
+        before: checked.before,
     })
+}
+
+/// Answers as [`check_end`] does, and tells the longest front of the records that has an end in
+/// Established, under the configuration of the verdict. Nothing is judged for it: what is judged is
+/// watched ([`watch_records`](bgp_watch::watch_records)), which says when it is known.
+pub fn watch_end<A: Allocator + Copy, T: Tracker<A>>(
+    alloc: A,
+    session: &Session,
+    records: &[Record<'_>],
+) -> Result<WatchedEnd<A>, AllocError>
+    ensures answer { IfOk result (λ watched.
+        IsAnswerTo session.now (map shown_of records.now) (answer_value watched.answer)) }
+    ensures before { IfOk result (λ watched. IsWatchedFor (map shown_of records.now)
+        (answer_value watched.answer) (option_map front_value watched.before)) }
+    ensures memory { OnErr result (LacksMemoryAtEnd T.may_lack_at_start T.may_lack session.now
+        (map shown_of records.now)) }
+{
+    let own = own_open(records);
+    let peers = peers_open(records);
+    match why_with_opens(records, own, peers) {
+        Some(why) => Ok(WatchedEnd {
+            answer: Answer::NotJudged(why),
+            before: None,
+        }),
+        None => judge_end::<A, T>(alloc, session, own, peers, records),
+    }
 }
 
 /// What is answered of the local system of a session, by the records of a stretch of it: why it
@@ -134,13 +178,6 @@ pub fn check_end<A: Allocator + Copy, T: Tracker<A>>(
     ensures memory { OnErr result (LacksMemoryAtEnd T.may_lack_at_start T.may_lack session.now
         (map shown_of records.now)) }
 {
-    let own = own_open(records);
-    let peers = peers_open(records);
-    match why_with_opens(records, own, peers) {
-        Some(why) => Ok(Answer::NotJudged(why)),
-        None => {
-            let judged = judge_end::<A, T>(alloc, session, own, peers, records)?;
-            Ok(Answer::Judged(judged))
-        }
-    }
+    let watched = watch_end::<A, T>(alloc, session, records)?;
+    Ok(watched.answer)
 }

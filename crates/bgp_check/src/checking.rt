@@ -1,14 +1,16 @@
 //! The verdict on an end's records over all configurations under which its OPEN is its own.
 
-ghost use Rattle.std.specs.Prelude.{◌≡◌, ◌↔◌, IfOk, OnErr, IsTrue, map};
+ghost use Rattle.std.specs.Prelude.{◌≡◌, ◌↔◌, IfOk, OnErr, IsTrue, map, option_map};
 ghost use Rattle.mrt.specs.Reader.{shown_of};
 ghost use Rattle.bgp_judge.specs.Verdict.{verdict_value};
 ghost use Rattle.bgp_check.specs.Checked.{IsTold, IsUnder, IsYes, tells_other};
 ghost use Rattle.bgp_check.specs.Memory.{LacksMemoryOver};
+ghost use Rattle.bgp_watch.specs.Front.{IsWatched, front_value};
 
 use crate::widest::Widest;
-use bgp_judge::{Tracker, Verdict, judge_records};
+use bgp_judge::{Tracker, Verdict};
 use bgp_open::Config;
+use bgp_watch::{Front, Watched, watch_records};
 use mrt::Record;
 use std::alloc::{AllocError, Allocator, Global};
 
@@ -22,6 +24,8 @@ pub struct Checked<A: Allocator = Global> {
     pub wants_peers: bool,
     /// That configuration.
     pub under: Config,
+    /// Under it the longest front of the records that has an end in Established, if it is known.
+    pub before: Option<Front<A>>,
 }
 
 fn is_yes<A: Allocator>(verdict: &Verdict<A>) -> bool
@@ -46,7 +50,7 @@ fn tells_other<A: Allocator>(one: &Verdict<A>, other: &Verdict<A>) -> bool
 /// The verdict on the records of a stretch, over all configurations of the end of which these are
 /// the widest. The second one is judged only where the first isn't yes. `AllocError` is answered
 /// where the tracker was refused memory under a configuration that is judged, and then no verdict;
-/// as of [`judge_records`], never for what stands behind the impossible record of a no.
+/// as of [`watch_records`], never for what stands behind the impossible record of a no.
 pub fn check_records<A: Allocator + Copy, T: Tracker<A>>(
     alloc: A,
     widest: &Widest,
@@ -56,36 +60,43 @@ pub fn check_records<A: Allocator + Copy, T: Tracker<A>>(
         checked.wants_peers (verdict_value checked.verdict)) }
     ensures under { IfOk result (λ checked.
         IsUnder widest.now checked.wants_peers checked.under) }
+    ensures before { IfOk result (λ checked. IsWatched checked.under (map shown_of records.now)
+        (option_map front_value checked.before)) }
     ensures memory { OnErr result (LacksMemoryOver T.may_lack_at_start T.may_lack widest.now
         (map shown_of records.now)) }
 {
     let Some(wanting) = widest.wanting else {
+        let Watched { verdict, before } = watch_records::<A, T>(alloc, &widest.another, records)?;
         return Ok(Checked {
-            verdict: judge_records::<A, T>(alloc, &widest.another, records)?,
+            verdict,
             wants_peers: false,
             under: widest.another,
+            before,
         });
     };
-    let first = judge_records::<A, T>(alloc, &wanting, records)?;
-    if is_yes(&first) {
+    let first = watch_records::<A, T>(alloc, &wanting, records)?;
+    if is_yes(&first.verdict) {
         return Ok(Checked {
-            verdict: first,
+            verdict: first.verdict,
             wants_peers: true,
             under: wanting,
+            before: first.before,
         });
     }
-    let second = judge_records::<A, T>(alloc, &widest.another, records)?;
-    if tells_other(&first, &second) {
+    let second = watch_records::<A, T>(alloc, &widest.another, records)?;
+    if tells_other(&first.verdict, &second.verdict) {
         Ok(Checked {
-            verdict: second,
+            verdict: second.verdict,
             wants_peers: false,
             under: widest.another,
+            before: second.before,
         })
     } else {
         Ok(Checked {
-            verdict: first,
+            verdict: first.verdict,
             wants_peers: true,
             under: wanting,
+            before: first.before,
         })
     }
 }

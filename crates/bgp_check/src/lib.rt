@@ -38,7 +38,7 @@ mod stretch;
 mod stretch_laws;
 mod widest;
 
-pub use answering::{Answer, Judged, check_end};
+pub use answering::{Answer, Judged, WatchedEnd, check_end, watch_end};
 pub use checking::{Checked, check_records};
 pub use cutting::{before_leaving, leaves_idle};
 pub use laws::{

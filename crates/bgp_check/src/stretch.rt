@@ -5,14 +5,17 @@ ghost use Rattle.mrt.specs.Reader.{shown_of};
 ghost use Rattle.bgp_check.specs.Answered.{answer_value};
 ghost use Rattle.bgp_check.specs.StretchTold.{IsStretchTold, answer_by, place_of, told_value};
 ghost use Rattle.bgp_check.specs.StretchTold.{with_leaving, with_place};
+ghost use Rattle.bgp_check.specs.WatchedEnd.{IsWatchedFor};
+ghost use Rattle.bgp_watch.specs.Front.{front_value};
 
-use crate::answering::{Answer, check_end};
+use crate::answering::{Answer, WatchedEnd, watch_end};
 use crate::leaving::left_answer;
 use crate::opens::{heard_open, own_open};
 use crate::passing::{Kept, RefreshOffers, keep};
 use crate::session_offers::{extended_in, refresh_in};
 use bgp_judge::{Tracker, Verdict};
 use bgp_prefix::Session;
+use bgp_watch::Front;
 use mrt::Record;
 use std::alloc::{AllocError, Allocator, Global};
 
@@ -21,6 +24,9 @@ use std::alloc::{AllocError, Allocator, Global};
 pub struct StretchTold<'a, A: Allocator = Global> {
     /// What is answered of the records that are judged.
     pub answer: Answer<A>,
+    /// Of these records, under the configuration of the verdict, the longest front that has an end
+    /// in Established, if it is known.
+    pub before: Option<Front<A>>,
     /// How many records of the stretch stand before the first impossible one, of a no: all, where
     /// that is the one that leaves it.
     pub impossible: Option<usize>,
@@ -115,8 +121,10 @@ pub fn check_stretch<'a, A: Allocator + Copy, T: Tracker<A>>(
     stretch: &[Record<'a>],
     leaving: Option<Record<'a>>,
 ) -> Result<StretchTold<'a, A>, AllocError>
-    ensures { IfOk result (λ told. IsStretchTold session.now (map shown_of stretch.now)
+    ensures told { IfOk result (λ told. IsStretchTold session.now (map shown_of stretch.now)
         (length stretch.now) (option_map shown_of leaving.entry) (told_value told)) }
+    ensures before { IfOk result (λ told. IsWatchedFor (map shown_of told.records.items)
+        (answer_value told.answer) (option_map front_value told.before)) }
 {
     let heard = heard_open(stretch);
     let offers = RefreshOffers {
@@ -130,10 +138,11 @@ pub fn check_stretch<'a, A: Allocator + Copy, T: Tracker<A>>(
         sent,
     } = keep(alloc, offers, stretch)?;
     let records = with_leaving(records, leaving)?;
-    let answer = check_end::<A, T>(alloc, session, &records)?;
+    let WatchedEnd { answer, before } = watch_end::<A, T>(alloc, session, &records)?;
     let impossible = place_of(&answer, &places, stretch.len());
     Ok(StretchTold {
         answer: answer_by(alloc, leaving, answer)?,
+        before,
         impossible,
         records,
         places: with_place(places, leaving, stretch.len())?,

@@ -11,3 +11,4 @@ pub mod Verdicts
 pub mod Headings
 pub mod Printed
 pub mod Repeated
+mod Own

@@ -39,4 +39,5 @@ ListIsWithoutEnds =
     (options : CaptureOptions) (octets : List ℕ) (ending : Ending) (text : List ℕ) (tally : Tally)
     (firsts : List (Option CaptureFault)) (fault : Option CaptureFault)
     (all : TellsAll options octets ending text tally firsts fault)
-    → options.printing.quiet ≡ false → TellsTheList options octets ending text fault all.named all.blocks
+    → options.printing.quiet ≡ false
+    → TellsTheList options octets ending text fault all.named all.blocks

@@ -136,8 +136,10 @@ pub(crate) fn end_of<'a, A: Allocator + Copy, T: Tracker<A>>(
     ensures { IfOk result (λ end. IsStretchEnd (view_value view.now) before
         (map shown_of stretch.now) (option_map shown_of leaving.entry) (stretch_value end)) }
 {
-    let told = check_stretch::<A, T>(alloc, &view.session, stretch, leaving)?;
-    let reached = reached_by::<A, T>(alloc, own_records(&told.records, leaving), &told.answer)?;
+    let mut told = check_stretch::<A, T>(alloc, &view.session, stretch, leaving)?;
+    let before_end = told.before.take();
+    let own = own_records(&told.records, leaving);
+    let reached = reached_by::<A, T>(alloc, own, &told.answer, before_end)?;
     let reason = reason_for::<A, T>(alloc, view, before, &told)?;
     let judge = options_of(view, before, leaving, &told);
     let place = place_in(view.named, before, &told);

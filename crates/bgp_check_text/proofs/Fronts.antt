@@ -1,34 +1,22 @@
 -- The fronts of records, and where runs that show them end.
-use Rattle.std.proofs.Common.{◌≡◌, ◌≢◌, ◌∙◌, ◌+◌, ◌-◌, ◌<◌, ◌≤◌, ◌⊎◌, ◌++◌, ℕ, List, [], ◌∷◌, ap, arith, get_or, inl, inr, length, map, refl, subst, suc, sym, take, zero}
-use Rattle.std.proofs.lemmas.List.{length-map, length-take-le, map_more, take-map, take-take}
+use Rattle.std.proofs.Common.{◌≡◌, ◌≢◌, ◌+◌, ◌-◌, ◌<◌, ◌≤◌, ◌⊎◌, Bool, true, false, IsTrue, ℕ, List, [], ◌∷◌, Option, None, Some, arith, inl, inr, length, refl, subst, suc, sym, take, zero}
+use Rattle.std.proofs.lemmas.List.{length-append, length-take-le, take-append-le, take-take}
 use Rattle.bgp_prefix.specs.Shown.{ShownRecord}
-use Rattle.mrt.specs.Reader.{shown_of}
-use Rattle.mrt.specs.declared.record.Record.{Record}
 use Rattle.bgp_open.specs.declared.config.Config.{Config}
-use Rattle.bgp_machine.specs.Lists.{Each}
-use Rattle.bgp_machine.specs.Run.{End, IsComplete}
-use Rattle.bgp_machine.specs.declared.fsm.Fsm.{Fsm}
+use Rattle.bgp_machine.specs.Run.{End}
 use Rattle.bgp_machine.specs.declared.fsm.Fsm.TheVariants as fsms
-use Rattle.bgp_judge.specs.Told.{EachRunIsAsTold, told}
+use Rattle.bgp_judge.specs.Ends.{ListsEnds}
+use Rattle.bgp_judge.specs.Told.{EachRunIsAsTold}
 use Rattle.bgp_judge.specs.Verdict.{HasVerdict, No, Unfinished, VerdictValue, Yes}
-use Rattle.bgp_reason.specs.Told as reason
-use Rattle.bgp_reason.specs.declared.told.Told.{Told}
+use Rattle.bgp_watch.specs.Front.{EndsEstablished, FrontValue, IsLongestFront}
+use Rattle.bgp_watch.specs.LastTold.{IsLastTold, TellsEstablished}
+use Rattle.bgp_watch.proofs.Fronts.{all_so, not_told}
+use Rattle.bgp_check.specs.Answered.{AnswerValue, JudgedAs, Unjudged}
+use Rattle.bgp_check.specs.StretchTold.{with_leaving}
 use Rattle.bgp_check.proofs.Over.{complete_begins, front_begins}
-use Rattle.bgp_check_text.specs.LastTold.{IsLastTold, IsNoYes, TellsEstablished, last_with}
-use Rattle.bgp_check_text.specs.Reached.{AreBefore, EndsEstablished, NoFrontEndsEstablished}
+use Rattle.bgp_check_text.specs.Reached.{AreBefore, AreBeforeIf, AreBeforeTo, AreOfLongestFront, IsLowerTo, IsNoYes, NoFrontEndsEstablished, has_lower}
 
 -- ---- where a run ends
-
-pub ends_as_told : EachRunIsAsTold → (config : Config) (records : List ShownRecord) (e : End) → IsComplete config records e → e.fsm ≡ (told records).fsm
-ends_as_told law config records e c = sym (ap (λ (x : End). x.fsm) c.2) ∙ (law config records c.0 c.1).fsm
-
-pub not_told : EachRunIsAsTold → (config : Config) (records : List ShownRecord) → ¬ TellsEstablished records → ¬ EndsEstablished config records
-not_told law config records untold has = untold (sym (ends_as_told law config records has.0 has.1) ∙ has.2)
-
-all_so : EachRunIsAsTold → (config : Config) (records : List ShownRecord) → TellsEstablished records → (ends : List End) → Each (IsComplete config records) ends
-    → Each (λ (e : End). e.fsm ≡ fsms.Established) ends
-all_so law config records tells [] each = tt
-all_so law config records tells (e ∷ ends) each = (ends_as_told law config records e each.0 ∙ tells, all_so law config records tells ends each.1)
 
 pub none_without_yes : (config : Config) (records : List ShownRecord) (v : VerdictValue) → IsNoYes v → HasVerdict config records v → ¬ EndsEstablished config records
 none_without_yes config records (Yes ends) other v has = other
@@ -105,78 +93,37 @@ pub none_at_all : EachRunIsAsTold → (config : Config) (records : List ShownRec
 none_at_all law config records left is so_far zero within = not_told law config [] idle_not
 none_at_all law config records left is so_far (suc n) within = so_far.none (suc n) (omega (arith, is)) within
 
--- ---- the longest front that tells Established
+-- ---- a front that is known
 
-pub record ToldSoFar (records : List ShownRecord) (index last : ℕ) (t : Told) : Type 0 where
-  pub is_told : t ≡ reason.told (take index records)
-  pub is_front : last ≤ index
-  pub tells : (last ≡ 0) ⊎ TellsEstablished (take last records)
-  pub is_last : (n : ℕ) → last < n → n ≤ index → ¬ TellsEstablished (take n records)
-
-pub none_yet : (records : List ShownRecord) → ToldSoFar records 0 0 reason.nothing_told
-none_yet records = record {
-  is_told = refl;
-  is_front = omega arith;
-  tells = inl refl;
-  is_last = λ n above within. absurd (let k : ⊥ = omega (arith, above, within) in k);
+-- of more records it is the longest, and it is one of these
+pub of_these : (config : Config) (records : List ShownRecord) (leaving : Option ShownRecord) (front : FrontValue)
+    → IsLongestFront config (with_leaving records leaving) front → front.count ≤ length records → AreOfLongestFront config records front.ends
+of_these config records None front is within = record {
+  count = front.count;
+  is_front = within;
+  has_some = is.has_some;
+  lists = is.lists;
+  are_established = is.are_established;
+  is_longest = is.is_longest;
+}
+of_these config records (Some shown) front is within = record {
+  count = front.count;
+  is_front = within;
+  has_some = is.has_some;
+  lists = subst (λ (rs : List ShownRecord). ListsEnds config rs front.ends) (take-append-le front.count records (shown ∷ []) within) is.lists;
+  are_established = is.are_established;
+  is_longest = λ n above inside.
+      subst (λ (rs : List ShownRecord). ¬ EndsEstablished config rs) (take-append-le n records (shown ∷ []) inside)
+      (is.is_longest n above (let len = length-append records (shown ∷ []) in omega (arith, inside, len)));
 }
 
-last_or : (index n : ℕ) → n ≤ index + 1 → (n ≤ index) ⊎ (n ≡ index + 1)
-last_or index n within = grind arith
+-- there are ends before: then an end may be in a lower state
+lower_if : (lower : Bool) (config : Config) (records : List ShownRecord) (before : List End) → AreBeforeIf lower config records before → before ≢ [] → IsTrue lower
+lower_if true config records before are some = refl
+lower_if false config records before are some = absurd (some are)
 
--- Established isn't told by one more, and so no longer front tells it
-kept_last : (records : List ShownRecord) (index last : ℕ) → ¬ TellsEstablished (take (index + 1) records)
-    → ((n : ℕ) → last < n → n ≤ index → ¬ TellsEstablished (take n records)) → (n : ℕ) → last < n → n ≤ index + 1 → ¬ TellsEstablished (take n records)
-kept_last records index last not_here before n above within = elim (last_or index n within) [
-  | inl front ↦ before n above front
-  | inr same ↦ subst (λ (k : ℕ). ¬ TellsEstablished (take k records)) (sym same) not_here
-]
-
-other_state : (f : Fsm) → f ≢ fsms.Established → (records : List ShownRecord) → f ≡ (told records).fsm → ¬ TellsEstablished records
-other_state f other records is tells = other (is ∙ tells)
-
-module _ (records : List ShownRecord) (index last : ℕ) (t next : Told) (so_far : ToldSoFar records index last t) (is_next : next ≡ reason.told (take (index + 1) records)) where
-  kept : (f : Fsm) → f ≢ fsms.Established → f ≡ (told (take (index + 1) records)).fsm → ToldSoFar records (index + 1) last next
-  kept f other is = record {
-    is_told = is_next;
-    is_front = let front = so_far.is_front in omega (arith, front);
-    tells = so_far.tells;
-    is_last = kept_last records index last (other_state f other (take (index + 1) records) is) so_far.is_last;
-  }
-
-  pub by_state : (f : Fsm) → f ≡ (told (take (index + 1) records)).fsm → ToldSoFar records (index + 1) (last_with last (index + 1) f) next
-  by_state fsms.Idle is = kept fsms.Idle (λ e. cc) is
-  by_state fsms.Connect is = kept fsms.Connect (λ e. cc) is
-  by_state fsms.Active is = kept fsms.Active (λ e. cc) is
-  by_state fsms.OpenSent is = kept fsms.OpenSent (λ e. cc) is
-  by_state fsms.OpenConfirm is = kept fsms.OpenConfirm (λ e. cc) is
-  by_state fsms.Established is = record {
-    is_told = is_next;
-    is_front = omega arith;
-    tells = inr (sym is);
-    is_last = λ n above within. absurd (let k : ⊥ = omega (arith, above, within) in k);
-  }
-
-pub one_more : reason.ToldOneMore → reason.ToldStateIsTold → (records : List Record) (index last : ℕ) (d : Record) (t : Told) → index < length records
-    → ToldSoFar (map shown_of records) index last t
-    → ToldSoFar (map shown_of records) (index + 1) (last_with last (index + 1) (reason.told_with (index + 1) (shown_of (get_or records index d)) t).state)
-    (reason.told_with (index + 1) (shown_of (get_or records index d)) t)
-one_more one state records index last d t within so_far =
-    let all = map shown_of records in
-    let shown = shown_of (get_or records index d) in
-    let next = reason.told_with (index + 1) shown t in
-    let front : take (index + 1) all ≡ take index all ++ shown ∷ [] =
-    take-map shown_of (index + 1) records ∙ map_more shown_of records index d within ∙ ap (λ (rs : List ShownRecord). rs ++ shown ∷ []) (sym (take-map shown_of index records)) in
-    let len : length (take index all) ≡ index = length-take-le index all (let same = length-map records shown_of in omega (arith, same, within)) in
-    let is_next : next ≡ reason.told (take (index + 1) all) =
-    sym (ap reason.told front ∙ one (take index all) shown ∙ ap (λ (n : ℕ). reason.told_with (n + 1) shown (reason.told (take index all))) len
-    ∙ ap (λ (x : Told). reason.told_with (index + 1) shown x) (sym so_far.is_told)) in
-    by_state all index last t next so_far is_next next.state (ap (λ (x : Told). x.state) is_next ∙ state (take (index + 1) all))
-
-pub all_told : (records : List Record) (index last : ℕ) (t : Told) → index ≡ length records → ToldSoFar (map shown_of records) index last t → IsLastTold (map shown_of records) last
-all_told records index last t is so_far =
-    let same = length-map records shown_of in record {
-      is_front = let front = so_far.is_front in omega (arith, front, is, same);
-      tells = so_far.tells;
-      is_last = λ n above within. so_far.is_last n above (omega (arith, within, is, same));
-    }
+pub is_lower : (records : List ShownRecord) (answer : AnswerValue) (before : List End) → AreBeforeTo records answer before → before ≢ [] → IsLowerTo answer
+is_lower records (Unjudged why) before are some = absurd (some are)
+is_lower records (JudgedAs number peer under (Yes ends)) before are some = lower_if (has_lower ends) under records before are some
+is_lower records (JudgedAs number peer under (No count)) before are some = absurd (some are)
+is_lower records (JudgedAs number peer under Unfinished) before are some = absurd (some are)

@@ -1,6 +1,5 @@
 pub mod AsNumber
 pub mod Highest
-pub mod LastTold
 pub mod Reached
 pub mod End
 pub mod States

@@ -1,26 +1,24 @@
 -- How far a session came before its end: the highest state that its records tell, and the routes
 -- that stood before it left Established.
 use Rattle.std.specs.Prelude.{◌≡◌, ◌≢◌, ◌⊎◌, ◌==◌, ◌<◌, ◌≤◌, ◌++◌, ℕ, Bool, true, false, not}
-use Rattle.std.specs.Prelude.{List, [], ◌∷◌, length, map, nat_lt, take}
+use Rattle.std.specs.Prelude.{List, [], ◌∷◌, Option, IsTrue, length, map, nat_lt, take}
 use Rattle.std.specs.List.{filter, list_any}
 use Rattle.bgp_prefix.specs.Shown.{ShownRecord}
 use Rattle.bgp_open.specs.declared.config.Config.{Config}
 use Rattle.bgp_machine.specs.Lists.{Each}
-use Rattle.bgp_machine.specs.Run.{End, IsComplete}
+use Rattle.bgp_machine.specs.Run.{End}
 use Rattle.bgp_machine.specs.State.{number_of}
 use Rattle.bgp_machine.specs.declared.fsm.Fsm.TheVariants as fsms
 use Rattle.bgp_judge.specs.Ends.{ListsEnds, end_value}
 use Rattle.bgp_judge.specs.Verdict.{No, Unfinished, VerdictValue, Yes}
+use Rattle.bgp_watch.specs.Front.{EndsEstablished, FrontValue, IsWatched}
 use Rattle.bgp_check.specs.Answered.{AnswerValue, JudgedAs, Unjudged}
+use Rattle.bgp_check.specs.StretchTold.{with_leaving}
+use Rattle.bgp_check.specs.WatchedEnd.{IsWatchedFor}
 use Rattle.bgp_check_text.specs.Highest.{highest_state}
 use Rattle.bgp_check_text.specs.declared.reached.Reached.{Reached}
 
 -- ---- the ends before
-
--- some run under this configuration shows just the records, and ends in Established
-abbrev pub EndsEstablished : Config → List ShownRecord → Type 0
-EndsEstablished config records =
-    (e : End) × IsComplete config records e × (e.fsm ≡ fsms.Established)
 
 -- Of all fronts of the records with such a run, one is the longest. These are all ends of the runs
 -- that show just that one.
@@ -65,6 +63,34 @@ abbrev pub AreBeforeTo : List ShownRecord → AnswerValue → List End → Type 
 AreBeforeTo records (Unjudged why) before = before ≡ []
 AreBeforeTo records (JudgedAs number peer under verdict) before =
     AreBeforeOf under records verdict before
+
+-- ---- where they are known, and where they may be sought
+
+-- It is known of these records, or of these and one behind them, that this front is the longest
+-- that has an end in Established; or nothing is known.
+abbrev pub IsKnown : Config → List ShownRecord → Option FrontValue → Type 0
+IsKnown config records front =
+    (leaving : Option ShownRecord) × IsWatched config (with_leaving records leaving) front
+
+-- of what is answered
+abbrev pub IsKnownFor : List ShownRecord → AnswerValue → Option FrontValue → Type 0
+IsKnownFor records answer front =
+    (leaving : Option ShownRecord) × IsWatchedFor (with_leaving records leaving) answer front
+
+abbrev pub IsNoYes : VerdictValue → Type 0
+IsNoYes (Yes ends) = ⊥
+IsNoYes (No count) = Unit {0}
+IsNoYes Unfinished = Unit {0}
+
+-- a yes with a possible end in a lower state
+abbrev pub IsLowerYes : VerdictValue → Type 0
+IsLowerYes (Yes ends) = IsTrue (has_lower ends)
+IsLowerYes (No count) = ⊥
+IsLowerYes Unfinished = ⊥
+
+abbrev pub IsLowerTo : AnswerValue → Type 0
+IsLowerTo (Unjudged why) = ⊥
+IsLowerTo (JudgedAs number peer under verdict) = IsLowerYes verdict
 
 -- ---- how many routes they have
 

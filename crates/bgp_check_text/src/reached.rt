@@ -1,22 +1,24 @@
 //! How far a session came before its end.
 
-ghost use Rattle.std.specs.Prelude.{◌≡◌, ◌++◌, IfNone, IfOk, IfSome, OnOk, map, nat_lt};
+ghost use Rattle.std.specs.Prelude.{◌≡◌, ◌≢◌, ◌++◌, [], IfNone, IfOk, IfSome, IsTrue, OnErr, OnOk};
+ghost use Rattle.std.specs.Prelude.{map, nat_lt, option_map};
 ghost use Rattle.std.specs.List.{filter};
 ghost use Rattle.mrt.specs.Reader.{shown_of};
 ghost use Rattle.bgp_judge.specs.Ends.{end_value};
 ghost use Rattle.bgp_judge.specs.Verdict.{Yes, verdict_value};
 ghost use Rattle.bgp_check.specs.Answered.{answer_value};
 ghost use Rattle.bgp_check_text.specs.Reached.{AreBefore, AreBeforeIf, AreBeforeOf, AreBeforeTo};
-ghost use Rattle.bgp_check_text.specs.Reached.{IsReached, counts_of, has_lower, reached_value};
-ghost use Rattle.bgp_check_text.specs.Reached.{with_count};
-ghost use Rattle.bgp_check_text.specs.LastTold.{IsLastTold, IsNoYes, last_with};
+ghost use Rattle.bgp_check_text.specs.Reached.{AreOfLongestFront, IsKnown, IsKnownFor, IsLowerTo};
+ghost use Rattle.bgp_check_text.specs.Reached.{IsLowerYes, IsNoYes, IsReached, counts_of};
+ghost use Rattle.bgp_check_text.specs.Reached.{has_lower, reached_value, with_count};
+ghost use Rattle.bgp_open.specs.declared.config.Config.{Config as TheConfig};
+ghost use Rattle.bgp_watch.specs.Front.{front_value};
 
 use crate::highest::highest_state;
 use bgp_check::Answer;
 use bgp_judge::{End, Tracker, Verdict, judge_records, records_tell_the_state};
-use bgp_machine::Fsm;
 use bgp_open::Config;
-use bgp_reason::{Told, records_tell_one_by_one};
+use bgp_watch::{Front, last_told};
 use mrt::Record;
 use std::alloc::{AllocError, Allocator, Global};
 
@@ -35,34 +37,6 @@ pub struct Reached<A: Allocator = Global> {
     pub(crate) counts: Vec<usize, A>,
 }
 
-/// Returns the length of the longest front of records that tells Established, if after so many
-/// records this state is told and this length was the longest before.
-fn last_with(last: usize, count: usize, state: Fsm) -> usize
-    ensures { result ≡ last_with last count state }
-{
-    match state {
-        Fsm::Established => count,
-        Fsm::Idle | Fsm::Connect | Fsm::Active | Fsm::OpenSent | Fsm::OpenConfirm => last,
-    }
-}
-
-/// Returns the length of the longest front of the records after which Established is told: 0 if
-/// there is none.
-fn last_told(records: &[Record<'_>]) -> usize
-    ensures { IsLastTold (map shown_of records.now) result }
-{
-    records_tell_one_by_one();
-    let mut told = Told::nothing();
-    let mut last = 0;
-    let mut count = 0;
-    for shown in records {
-        count += 1;
-        told = told.with(count as u64, shown);
-        last = last_with(last, count, told.state);
-    }
-    last
-}
-
 /// Returns the possible ends, of a yes.
 fn ends_of<A: Allocator>(verdict: Verdict<A>) -> Option<Vec<End<A>, A>>
     ensures some { IfSome result (λ ends.
@@ -76,7 +50,26 @@ fn ends_of<A: Allocator>(verdict: Verdict<A>) -> Option<Vec<End<A>, A>>
     }
 }
 
-/// Returns the ends of the longest front of the records that has one in Established, if one has.
+/// Returns the ends of a front that is known, if it is one of these records.
+fn known_ends<A: Allocator>(
+    records: &[Record<'_>],
+    known: Option<Front<A>>,
+) -> Option<Vec<End<A>, A>>
+    ensures { (config : TheConfig)
+        → IsKnown config (map shown_of records.now) (option_map front_value known)
+        → IfSome result (λ ends. AreOfLongestFront config (map shown_of records.now)
+        (map end_value ends.items)) }
+{
+    let Front { count, ends } = known?;
+    if count <= records.len() {
+        Some(ends)
+    } else {
+        None
+    }
+}
+
+/// Returns the ends of the longest front of the records that has one in Established, if one has, of
+/// records that weren't watched while they were judged.
 ///
 /// A front is judged only if Established is told after it. A step that leaves Established shows
 /// three records at most, and the front before it has such an end: so three fronts are judged at
@@ -119,12 +112,18 @@ fn before_ends<A: Allocator + Copy, T: Tracker<A>>(
     config: &Config,
     records: &[Record<'_>],
     endings: &[End<A>],
+    known: Option<Front<A>>,
 ) -> Result<Vec<End<A>, A>, AllocError>
-    ensures { IfOk result (λ ends. AreBeforeIf (has_lower (map end_value endings.now))
+    requires { IsKnown config.now (map shown_of records.now) (option_map front_value known) }
+    ensures before { IfOk result (λ ends. AreBeforeIf (has_lower (map end_value endings.now))
         config.now (map shown_of records.now) (map end_value ends.items)) }
+    ensures memory { OnErr result (IsTrue (has_lower (map end_value endings.now))) }
 {
     if has_lower(endings) {
-        ends_before::<A, T>(alloc, config, records)
+        match known_ends(records, known) {
+            Some(ends) => Ok(ends),
+            None => ends_before::<A, T>(alloc, config, records),
+        }
     } else {
         Ok(Vec::new(alloc))
     }
@@ -136,12 +135,17 @@ fn before_of<A: Allocator + Copy, T: Tracker<A>>(
     config: &Config,
     records: &[Record<'_>],
     verdict: &Verdict<A>,
+    known: Option<Front<A>>,
 ) -> Result<Vec<End<A>, A>, AllocError>
-    ensures { IfOk result (λ ends. AreBeforeOf config.now (map shown_of records.now)
+    requires { IsKnown config.now (map shown_of records.now) (option_map front_value known) }
+    ensures before { IfOk result (λ ends. AreBeforeOf config.now (map shown_of records.now)
         (verdict_value verdict.now) (map end_value ends.items)) }
+    ensures memory { OnErr result (IsLowerYes (verdict_value verdict.now)) }
 {
     match verdict {
-        Verdict::Yes(endings) => { before_ends::<A, T>(alloc, config, records, endings.as_slice()) }
+        Verdict::Yes(endings) => {
+            before_ends::<A, T>(alloc, config, records, endings.as_slice(), known)
+        }
         Verdict::No(_) | Verdict::Unfinished => Ok(Vec::new(alloc)),
     }
 }
@@ -151,14 +155,18 @@ fn before_to<A: Allocator + Copy, T: Tracker<A>>(
     alloc: A,
     records: &[Record<'_>],
     answer: &Answer<A>,
+    known: Option<Front<A>>,
 ) -> Result<Vec<End<A>, A>, AllocError>
-    ensures { IfOk result (λ ends. AreBeforeTo (map shown_of records.now)
+    requires { IsKnownFor (map shown_of records.now) (answer_value answer.now)
+        (option_map front_value known) }
+    ensures before { IfOk result (λ ends. AreBeforeTo (map shown_of records.now)
         (answer_value answer.now) (map end_value ends.items)) }
+    ensures memory { OnErr result (IsLowerTo (answer_value answer.now)) }
 {
     match answer {
         Answer::NotJudged(_) => Ok(Vec::new(alloc)),
         Answer::Judged(judged) => {
-            before_of::<A, T>(alloc, &judged.under, records, &judged.verdict)
+            before_of::<A, T>(alloc, &judged.under, records, &judged.verdict, known)
         }
     }
 }
@@ -214,7 +222,9 @@ fn with_count<A: Allocator + Copy>(
 
 /// Returns how many routes the ends have, each number once, ascending.
 fn counts_of<A: Allocator + Copy>(alloc: A, endings: &[End<A>]) -> Result<Vec<usize, A>, AllocError>
-    ensures { IfOk result (λ counts. counts.items ≡ counts_of (map end_value endings.now)) }
+    ensures counts { IfOk result (λ counts.
+        counts.items ≡ counts_of (map end_value endings.now)) }
+    ensures memory { OnErr result (map end_value endings.now ≢ []) }
 {
     let mut counts = Vec::new(alloc);
     let mut index = endings.len();
@@ -225,19 +235,24 @@ fn counts_of<A: Allocator + Copy>(alloc: A, endings: &[End<A>]) -> Result<Vec<us
     Ok(counts)
 }
 
-/// Returns how far the session came of whose records this is answered. A front of them is judged
-/// once more if the session may have ended in a lower state after Established.
+/// Returns how far the session came of whose records this is answered. If it may have ended in a
+/// lower state after Established, and no front is known that has an end there, records are judged
+/// once more.
 ///
-/// Returns `AllocError` if memory is refused.
+/// Returns `AllocError` if memory is refused: only if it may have ended in a lower state.
 pub fn reached_by<A: Allocator + Copy, T: Tracker<A>>(
     alloc: A,
     records: &[Record<'_>],
     answer: &Answer<A>,
+    known: Option<Front<A>>,
 ) -> Result<Reached<A>, AllocError>
-    ensures { IfOk result (λ reached. IsReached (map shown_of records.now)
+    requires { IsKnownFor (map shown_of records.now) (answer_value answer.now)
+        (option_map front_value known) }
+    ensures reached { IfOk result (λ reached. IsReached (map shown_of records.now)
         (answer_value answer.now) (reached_value reached)) }
+    ensures memory { OnErr result (IsLowerTo (answer_value answer.now)) }
 {
-    let before = before_to::<A, T>(alloc, records, answer)?;
+    let before = before_to::<A, T>(alloc, records, answer, known)?;
     let counts = counts_of(alloc, &before)?;
     Ok(Reached {
         highest: highest_state(records),

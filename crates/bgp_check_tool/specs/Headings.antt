@@ -24,7 +24,8 @@ use Rattle.bgp_check_tool.specs.Text.{one_end_line, told_lines}
 abbrev pub heading : Block → LineValue
 heading (BothEnds session opening outline first second opener other) =
     lines.Octets session opening outline first second
-heading (OneEnd session opening outline first second) = lines.Octets session opening outline first second
+heading (OneEnd session opening outline first second) =
+    lines.Octets session opening outline first second
 heading (Refused session opening refusal) = lines.Refused session opening refusal
 heading (AllRefused addresses refusal) = lines.AllRefused addresses refusal
 

@@ -134,8 +134,8 @@ pub record NoneHasARun (port : ℕ) (packets : List Recorded) (within last_packe
 abbrev pub ToldNoHasNoRun : Type 0
 ToldNoHasNoRun =
     (options : CheckOptions) (last_packet place : ℕ) (packets : List Recorded) (session : Session)
-    (opening : Opening) (outline : OutlineValue) (first second : ℕ) (opener other told : EndTold) (side : Side)
-    (number : Option ℕ) (peer : PeerAs) (under : Config) (count : ℕ)
+    (opening : Opening) (outline : OutlineValue) (first second : ℕ)
+    (opener other told : EndTold) (side : Side) (number : Option ℕ) (peer : PeerAs) (under : Config) (count : ℕ)
     → IsToldAt options packets last_packet place
     (BothEnds session opening outline first second opener other)
     → IsToldOfSide opening opener other side told

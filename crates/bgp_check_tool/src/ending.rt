@@ -1,8 +1,9 @@
 //! What is told of one of a connection's two ends.
 
-ghost use Rattle.std.specs.Prelude.{◌≡◌, true, None, IfOk, map};
+ghost use Rattle.std.specs.Prelude.{◌≡◌, true, None, IfOk, map, option_map};
 ghost use Rattle.mrt.specs.Reader.{shown_of};
 ghost use Rattle.bgp_check.specs.Answered.{IsAnswerTo, JudgedAs, answer_value};
+ghost use Rattle.bgp_check.specs.WatchedEnd.{IsWatchedFor};
 ghost use Rattle.bgp_judge.specs.Verdict.{Unfinished};
 ghost use Rattle.bgp_check_text.specs.AsNumber.{HasAsNumber};
 ghost use Rattle.bgp_check_text.specs.Reason.{IsReasonTo, deed_text, lines_text};
@@ -20,6 +21,7 @@ ghost use Rattle.bgp_check_tool.specs.Late.{IsLate};
 ghost use Rattle.bgp_check_tool.specs.Made.{IsMade};
 ghost use Rattle.bgp_check_tool.specs.Place.{second_at};
 ghost use Rattle.bgp_check_tool.specs.Told.{IsTold, peer_end, place_of, told_value};
+ghost use Rattle.bgp_watch.specs.Front.{front_value};
 
 use crate::another::{AnotherOrder, Order, Searched, search_orders};
 use crate::elsewhere::{in_made, no_place, other_deed};
@@ -29,13 +31,14 @@ use crate::making::Made;
 use crate::options::CheckOptions;
 use crate::orders::{NoOrder, Under};
 use crate::place::{last_place, place_at, second_at, sent_place};
-use bgp_check::{Answer, Judged, check_end};
+use bgp_check::{Answer, Judged, watch_end};
 use bgp_check_text::{Asked, JudgeOptions, Reached, Reason, reached_by, reason_of, sent_as_number};
 use bgp_explain::Places;
 use bgp_import::notes_on;
 use bgp_judge::{Tracker, Verdict};
 use bgp_prefix::{Seconds, Session};
 use bgp_recording::{Entry, Framings, Recording, Unshown};
+use bgp_watch::Front;
 use bgp_why::{Endpoint as PeerEnd, Place};
 use segments::Endpoint;
 use std::alloc::{AllocError, Allocator};
@@ -290,18 +293,22 @@ fn number_in<A: Allocator>(answer: &Answer<A>) -> Option<u32>
     }
 }
 
-/// How far the session came of whose records this is answered.
+/// How far the session came of whose records this is answered, and of which this is the longest
+/// front with an end in Established, if it is known.
 fn reached_on<A: Allocator + Copy, T: Tracker<A>>(
     alloc: A,
     recording: &Recording<'_, A>,
     answer: &Answer<A>,
+    before: Option<Front<A>>,
 ) -> Result<Reached<A>, AllocError>
-    requires { map shown_of recording.now.records.items
+    requires records { map shown_of recording.now.records.items
         ≡ records_of recording.now.entries.items }
+    requires watched { IsWatchedFor (records_of recording.now.entries.items)
+        (answer_value answer.now) (option_map front_value before) }
     ensures { IfOk result (λ reached. IsReached (records_of recording.now.entries.items)
         (answer_value answer.now) (reached_value reached)) }
 {
-    reached_by::<A, T>(alloc, recording.records.as_slice(), answer)
+    reached_by::<A, T>(alloc, recording.records.as_slice(), answer, before)
 }
 
 /// That an end with this AS number is unfinished, under this configuration.
@@ -337,16 +344,18 @@ pub(crate) fn told_by<'a, A: Allocator + Copy, T: Tracker<A>>(
     let (framings, recording) = (made.framings, &made.recording);
     let records = recording.records.as_slice();
     let entries = recording.entries.as_slice();
-    let answer = check_end::<A, T>(alloc, &viewed.session, records)?;
+    let watched = watch_end::<A, T>(alloc, &viewed.session, records)?;
+    let answer = watched.answer;
+    let before = watched.before;
     match search_orders::<A, T>(alloc, viewed, framings, &answer) {
         Searched::Nothing => {
-            let reached = reached_on::<A, T>(alloc, recording, &answer)?;
+            let reached = reached_on::<A, T>(alloc, recording, &answer, before)?;
             let reason = reason_on::<A, T>(alloc, viewed, framings, recording, &answer)?;
             let beside = Beside::of_made::<T>(alloc, viewed, made, &answer, None)?;
             Ok(told_of(viewed, recording, answer, reached, reason, beside))
         }
         Searched::NoOrder(found) => {
-            let reached = reached_on::<A, T>(alloc, recording, &answer)?;
+            let reached = reached_on::<A, T>(alloc, recording, &answer, before)?;
             let reason = reason_on::<A, T>(alloc, viewed, framings, recording, &answer)?;
             let beside = Beside::of_made::<T>(alloc, viewed, made, &answer, Some(found))?;
             Ok(told_of(viewed, recording, answer, reached, reason, beside))
@@ -355,14 +364,14 @@ pub(crate) fn told_by<'a, A: Allocator + Copy, T: Tracker<A>>(
             let reason = reason_on::<A, T>(alloc, viewed, framings, recording, &answer)?;
             let in_made = no_place(entries, &answer);
             let answer = unfinished(number_in(&answer), its);
-            let reached = reached_on::<A, T>(alloc, recording, &answer)?;
+            let reached = reached_on::<A, T>(alloc, recording, &answer, None)?;
             let late = late_of::<A, T>(alloc, viewed, &answer)?;
             let beside = Beside::of_others(Order::All, in_made, late);
             Ok(told_of(viewed, recording, answer, reached, reason, beside))
         }
         Searched::Another(another) => {
             let AnotherOrder { recording, answer } = another;
-            let reached = reached_on::<A, T>(alloc, &recording, &answer)?;
+            let reached = reached_on::<A, T>(alloc, &recording, &answer, None)?;
             let reason = reason_on::<A, T>(alloc, viewed, framings, &recording, &answer)?;
             let beside = Beside::of_others(Order::Another, None, None);
             Ok(told_of(viewed, &recording, answer, reached, reason, beside))

@@ -1,5 +1,5 @@
 -- How deep arrays and objects nest: few enough for a reader of JSON, which stops at 128.
-use Rattle.std.specs.Prelude.{⊤}
+use Rattle.std.specs.Prelude.{⊤, nat_lt}
 use Rattle.std.proofs.Common.{◌≤◌, ◌++◌, ◌∷◌, ◌==◌, ◌||◌, ℕ, suc, List, [], Bool, true, false, Option, None, Some, arith, bytes_eq, codes, if◌then◌else◌, map}
 use Rattle.std.proofs.Math.Nat.{max-le}
 use Rattle.json.specs.Json.{Json, boolean}
@@ -31,6 +31,7 @@ use Rattle.bgp_json_values.specs.Objects.{array_of, in_array, in_object, number_
 use Rattle.bgp_json_values.specs.Octets.{octets_members, value_or_octets}
 use Rattle.bgp_json_values.specs.RoutesJson.{destination_json, destinations_json, hop_addresses, hop_members, path_ids_members, routes_json, spelled_routes}
 use Rattle.bgp_json_values.specs.Texts.{address_json}
+use Rattle.bgp_json_values.specs.Times.{micro_members, time_members}
 
 -- ---- of arrays and objects
 
@@ -56,6 +57,19 @@ object_depth n members each = let inside = in_object_within n members each in om
 pub both_within : (n : ℕ) (members others : List (List ℕ × Json)) → AreWithin n members → AreWithin n others → AreWithin n (members ++ others)
 both_within n [] others each more = more
 both_within n (m ∷ members) others each more = (each.0, both_within n members others each.1 more)
+
+-- ---- of times
+
+if_within : (n : ℕ) (is_so : Bool) (members : List (List ℕ × Json)) → AreWithin n members → AreWithin n (if is_so then members else [])
+if_within n true members each = each
+if_within n false members each = tt
+
+micro_within : (n : ℕ) (micro : Option ℕ) → AreWithin n (micro_members micro)
+micro_within n None = tt
+micro_within n (Some micro) = if_within n (nat_lt micro 1000000) ((codes "micro", number_of micro) ∷ []) (omega arith, tt)
+
+pub time_within : (n second : ℕ) (micro : Option ℕ) → AreWithin n (time_members second micro)
+time_within n second micro = (omega arith, micro_within n micro)
 
 -- ---- of octets beside a value
 

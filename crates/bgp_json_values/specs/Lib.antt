@@ -8,3 +8,4 @@ pub mod AttributeJson
 pub mod RoutesJson
 pub mod Unicast
 pub mod ErrorJson
+pub mod Times

@@ -22,6 +22,7 @@ mod routes;
 mod spelled_capabilities;
 mod spelled_routes;
 mod texts;
+mod times;
 
 pub use attributes::put_attributes;
 pub use capabilities::put_capabilities;
@@ -29,3 +30,4 @@ pub use destinations::{are_spelled, listed, put_destinations, put_path_ids, spel
 pub use errors::{put_error, put_error_name};
 pub use octets::{put_octets_member, put_unless};
 pub use texts::{put_address, put_name, put_number, put_octets, put_prefix, put_truth};
+pub use times::put_time;

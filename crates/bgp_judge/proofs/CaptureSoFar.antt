@@ -68,7 +68,7 @@ module _ {S : Type 0} (gives : S → S → List ℕ → Type 0) (has_ended : S �
     pub going : state.is_ended ≡ false
     pub shown : records_of pieces ≡ records
 
-  pub nothing_read : (state : ReaderState) → state ≡ fresh_reader → gives source source [] → SoFar source state []
+  unfoldable pub nothing_read : (state : ReaderState) → state ≡ fresh_reader → gives source source [] → SoFar source state []
   nothing_read state fresh nothing = record {
     pieces = [];
     each = tt;
@@ -88,33 +88,33 @@ module _ {S : Type 0} (gives : S → S → List ℕ → Type 0) (has_ended : S �
       subst (λ (b : Bool). NextBy gives has_ended config.parts.session None b now next state after answer) so_far.going
       (subst (λ (f : Option CaptureFault). NextBy gives has_ended config.parts.session f state.is_ended now next state after answer) so_far.calm is)
 
-  behind : (now : S) (state : ReaderState) (records : List ShownRecord) (so_far : SoFar now state records) (more : List Piece)
+  pub behind : (now : S) (state : ReaderState) (records : List ShownRecord) (so_far : SoFar now state records) (more : List Piece)
       → ArePieces config.parts.session state.last more → ArePieces config.parts.session None (so_far.pieces ++ more)
   behind now state records so_far more are =
       pieces_chain config.parts.session None so_far.pieces more so_far.each (subst (λ (l : Option ℕ). ArePieces config.parts.session l more) so_far.last are)
 
-  last_behind : (now : S) (state : ReaderState) (records : List ShownRecord) (so_far : SoFar now state records) (more : List Piece)
+  pub last_behind : (now : S) (state : ReaderState) (records : List ShownRecord) (so_far : SoFar now state records) (more : List Piece)
       → last_of state.last more ≡ last_of None (so_far.pieces ++ more)
   last_behind now state records so_far more =
       ap (λ (l : Option ℕ). last_of l more) so_far.last ∙ sym (last_chain None so_far.pieces more)
 
-  others_behind : (now : S) (state : ReaderState) (records : List ShownRecord) (so_far : SoFar now state records) (more : List Piece)
+  pub others_behind : (now : S) (state : ReaderState) (records : List ShownRecord) (so_far : SoFar now state records) (more : List Piece)
       → others_of state.others more ≡ others_of [] (so_far.pieces ++ more)
   others_behind now state records so_far more =
       ap (λ (o : List Endpoints). others_of o more) so_far.others ∙ sym (others_chain [] so_far.pieces more)
 
-  skipped_behind : (now : S) (state : ReaderState) (records : List ShownRecord) (so_far : SoFar now state records) (more : List Piece)
+  pub skipped_behind : (now : S) (state : ReaderState) (records : List ShownRecord) (so_far : SoFar now state records) (more : List Piece)
       → both_skipped state.skipped (skipped_in more) ≡ skipped_in (so_far.pieces ++ more)
   skipped_behind now state records so_far more =
       ap (λ (s : SkippedRecords). both_skipped s (skipped_in more)) so_far.skipped ∙ chained_counts so_far.pieces more
 
-  given_behind : (now next : S) (state : ReaderState) (records : List ShownRecord) (so_far : SoFar now state records) (more : List Piece) → gives now next (joined more)
+  pub given_behind : (now next : S) (state : ReaderState) (records : List ShownRecord) (so_far : SoFar now state records) (more : List Piece) → gives now next (joined more)
       → gives source next (joined (so_far.pieces ++ more))
   given_behind now next state records so_far more given =
       subst (λ (o : List ℕ). gives source next o) (sym (joined_chain so_far.pieces more))
       (gives_joined source now next (joined so_far.pieces) (joined more) so_far.gave given)
 
-  count_behind : (now : S) (state : ReaderState) (records : List ShownRecord) (so_far : SoFar now state records) (more : List Piece)
+  pub count_behind : (now : S) (state : ReaderState) (records : List ShownRecord) (so_far : SoFar now state records) (more : List Piece)
       → state.passed + length (joined more) ≡ length (joined (so_far.pieces ++ more))
   count_behind now state records so_far more =
       let many = ap length (joined_chain so_far.pieces more) ∙ length-append (joined so_far.pieces) (joined more) in
@@ -127,7 +127,7 @@ module _ {S : Type 0} (gives : S → S → List ℕ → Type 0) (has_ended : S �
       records_chain so_far.pieces more ∙ ap (λ (r : List ShownRecord). records_of so_far.pieces ++ r) only ∙ append-nil (records_of so_far.pieces) ∙ so_far.shown
 
   -- one record more
-  pub answered : (now next : S) (state after : ReaderState) (records : List ShownRecord) (shown : ShownRecord) → SoFar now state records
+  unfoldable pub answered : (now next : S) (state after : ReaderState) (records : List ShownRecord) (shown : ShownRecord) → SoFar now state records
       → Answers gives has_ended config.parts.session now next state after shown → SoFar next after (records ++ shown ∷ [])
   answered now next state after records shown so_far answer =
       let more = answer.skipped ++ Shown answer.octets ∷ [] in

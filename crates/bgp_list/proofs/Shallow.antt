@@ -10,7 +10,8 @@ use Rattle.streams.specs.declared.connection.Opening.{Opening}
 use Rattle.bgp_why.specs.declared.endpoint.Endpoint.{Endpoint}
 use Rattle.bgp_import.specs.ListText.{other_side}
 use Rattle.bgp_import.specs.declared.refusal.Refusal.{Refusal}
-use Rattle.bgp_json_values.proofs.Depths.{AreWithin, both_within, error_within, object_depth}
+use Rattle.bgp_json_values.specs.Times.{time_members}
+use Rattle.bgp_json_values.proofs.Depths.{AreWithin, both_within, error_within, object_depth, time_within}
 use Rattle.bgp_json.specs.Object.{typed}
 use Rattle.bgp_ended.specs.Values.{EndedValue, HowValue, Notified, Closed, Fallen, OutlineValue}
 use Rattle.bgp_list.specs.ConnectionJson.{addresses_members, as_members, ends_members, first_members, opening_members, outlined_members, refused_members}
@@ -42,8 +43,11 @@ how_within (Fallen state) = (omega arith, (omega arith, (omega arith, tt)))
 
 ended_within : (by : Endpoint) (ended : EndedValue) → AreWithin 2 (ended_members by ended)
 ended_within by ended =
+    let time = time_members ended.moment.second ended.moment.micro in
     let ends = endpoint_members (codes "by") (codes "by_port") by in
-    (omega arith, (omega arith, both_within 2 ends (how_members ended.how) (endpoint_within 2 (codes "by") (codes "by_port") by) (how_within ended.how)))
+    let how = how_members ended.how in
+    let both = both_within 2 ends how (endpoint_within 2 (codes "by") (codes "by_port") by) (how_within ended.how) in
+    (omega arith, both_within 2 time (ends ++ how) (time_within 2 ended.moment.second ended.moment.micro) both)
 
 end_within : (session : Session) (opening : Opening) (ended : Option EndedValue) → AreWithin 6 (end_members session opening ended)
 end_within session opening None = (omega arith, tt)
@@ -53,6 +57,10 @@ end_within session opening (Some ended) =
 
 -- ---- connections
 
+first_within : (opening : Opening) → AreWithin 6 (first_members opening)
+first_within opening =
+    both_within 6 (time_members opening.second opening.micro) _ (time_within 6 opening.second opening.micro) (omega arith, tt)
+
 opening_within : (session : Session) (opening : Opening) → AreWithin 6 (opening_members session opening)
 opening_within session opening =
     let opener = endpoint_of opening.opened_by session opening in
@@ -61,7 +69,7 @@ opening_within session opening =
     let to = endpoint_members (codes "to") (codes "to_port") other in (
       omega arith,
       both_within 6 (ends_members session opening) (first_members opening)
-          (both_within 6 from to (endpoint_within 6 (codes "from") (codes "from_port") opener) (endpoint_within 6 (codes "to") (codes "to_port") other)) (omega arith, (omega arith, tt)),
+          (both_within 6 from to (endpoint_within 6 (codes "from") (codes "from_port") opener) (endpoint_within 6 (codes "to") (codes "to_port") other)) (first_within opening),
     )
 
 outlined_within : (session : Session) (opening : Opening) (outline : OutlineValue) (first second : ℕ) → AreWithin 6 (outlined_members session opening outline first second)

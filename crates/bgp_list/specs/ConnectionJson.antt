@@ -9,6 +9,7 @@ use Rattle.bgp_import.specs.Refusals.{refusal_name, refusal_number, refusal_pack
 use Rattle.bgp_import.specs.declared.refusal.Refusal.{Refusal}
 use Rattle.bgp_json_values.specs.Objects.{array_of, number_of, object_of}
 use Rattle.bgp_json_values.specs.Texts.{address_json}
+use Rattle.bgp_json_values.specs.Times.{time_members}
 use Rattle.bgp_json.specs.Object.{typed}
 use Rattle.bgp_json.specs.Others.{recording_json}
 use Rattle.bgp_ended.specs.Values.{OutlineValue}
@@ -26,10 +27,10 @@ ends_members session opening =
     ++ endpoint_members (codes "to") (codes "to_port")
     (endpoint_of (other_side opening.opened_by) session opening)
 
--- the second and the number of its first packet
+-- the time and the number of its first packet
 abbrev pub first_members : Opening → List (List ℕ × Json)
 first_members opening =
-    (codes "second", number_of opening.second) ∷ (codes "packet", number_of opening.packet) ∷ []
+    time_members opening.second opening.micro ++ (codes "packet", number_of opening.packet) ∷ []
 
 -- its number, its ends, and its first packet
 abbrev pub opening_members : Session → Opening → List (List ℕ × Json)

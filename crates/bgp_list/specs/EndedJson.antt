@@ -8,6 +8,7 @@ use Rattle.bgp_prefix.specs.declared.session.Session.{Session}
 use Rattle.bgp_why.specs.declared.endpoint.Endpoint.{Endpoint}
 use Rattle.bgp_json_values.specs.ErrorJson.{error_members}
 use Rattle.bgp_json_values.specs.Objects.{number_of, object_of}
+use Rattle.bgp_json_values.specs.Times.{time_members}
 use Rattle.bgp_json.specs.Others.{change_members}
 use Rattle.bgp_ended.specs.Values.{EndedValue, HowValue, Notified, Closed, Fallen}
 use Rattle.bgp_list.specs.Connections.{endpoint_of}
@@ -26,12 +27,12 @@ how_members (Notified error) =
 how_members (Closed closing) = (codes "how", string (closing_word closing)) ∷ []
 how_members (Fallen state) = (codes "how", string (codes "change")) ∷ change_members state 1
 
--- the end of a connection: the packet that shows it, its second, who ended it, and how
+-- the end of a connection: the packet that shows it, its time, who ended it, and how
 abbrev pub ended_members : Endpoint → EndedValue → List (List ℕ × Json)
 ended_members by ended =
     (codes "packet", number_of ended.moment.packet)
-    ∷ (codes "second", number_of ended.moment.second)
-    ∷ (endpoint_members (codes "by") (codes "by_port") by ++ how_members ended.how)
+    ∷ (time_members ended.moment.second ended.moment.micro
+    ++ (endpoint_members (codes "by") (codes "by_port") by ++ how_members ended.how))
 
 -- the end of a connection, or that it is open at the end of the file
 abbrev pub end_members : Session → Opening → Option EndedValue → List (List ℕ × Json)

@@ -15,7 +15,7 @@ use crate::members::{put_as_number, put_end_members, put_pair};
 use bgp_ended::Outline;
 use bgp_import::{Refusal, other_side};
 use bgp_json::{begin, put_text};
-use bgp_json_values::{put_address, put_number};
+use bgp_json_values::{put_address, put_number, put_time};
 use bgp_prefix::Session;
 use json::Writer;
 use segments::Addresses;
@@ -39,14 +39,14 @@ fn put_ends<A: Allocator + Copy>(
     put_end_members(writer, alloc, "to", "to_port", &to)
 }
 
-/// The second and the number of its first packet.
+/// The time and the number of its first packet.
 fn put_first_members<A: Allocator>(
     writer: &mut Writer<A>,
     opening: Opening,
 ) -> Result<(), AllocError>
     ensures { Adds result writer.old writer.new (members_tokens (first_members opening)) }
 {
-    put_number(writer, "second", u64::from(opening.second))?;
+    put_time(writer, opening.second, opening.micro)?;
     put_number(writer, "packet", opening.packet)
 }
 

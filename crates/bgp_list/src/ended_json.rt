@@ -10,7 +10,7 @@ use crate::connection::endpoint_of;
 use crate::members::put_end_members;
 use bgp_ended::{Ended, How};
 use bgp_json::{put_states, put_text};
-use bgp_json_values::{put_error, put_number, put_truth};
+use bgp_json_values::{put_error, put_number, put_time, put_truth};
 use bgp_open::Notification;
 use bgp_prefix::Session;
 use bgp_why::Endpoint;
@@ -84,7 +84,7 @@ fn put_ended_members<A: Allocator + Copy>(
         (members_tokens (ended_members by.now (ended_value ended.entry))) }
 {
     put_number(writer, "packet", ended.moment.packet)?;
-    put_number(writer, "second", u64::from(ended.moment.second))?;
+    put_time(writer, ended.moment.second, ended.moment.micro)?;
     put_end_members(writer, alloc, "by", "by_port", by)?;
     put_how_members(writer, alloc, ended.how)
 }

@@ -9,3 +9,4 @@ pub mod Rows
 pub mod Counts
 pub mod NoOrder
 pub mod Entries
+pub mod SentPlaces

@@ -90,15 +90,15 @@ told_seconds exchange told =
 -- ---- an order with its seconds that begins with the items that lead to a node
 
 -- what is left at a node goes by the clock, and no sent message comes before the item before
-record IsTimed (clock : ℕ → ℕ) (n : Node) : Type 0 where
+pub record IsTimed (clock : ℕ → ℕ) (n : Node) : Type 0 where
   pub clocked : AreClocked clock n.received n.sent n.end
   pub bound : AllByRecursion (λ s. n.last ≤ s.second) n.sent
 
 -- an order goes on from the node
-abbrev GoesOn : ℕ → (List Item → Type 0) → Node → Type 0
+abbrev pub GoesOn : ℕ → (List Item → Type 0) → Node → Type 0
 GoesOn within P n = (order : List Item) × IsWalk within n.received n.sent n.end order × P order
 
-record IsBuilt (config : Config) (within : ℕ) (P : List Item → Type 0) (order : List Item) (n n2 : Node) : Type 0 where
+pub record IsBuilt (config : Config) (within : ℕ) (P : List Item → Type 0) (order : List Item) (n n2 : Node) : Type 0 where
   pub front : List Event
   pub later : List Event
   pub walk : IsWalk within n.received n.sent n.end (items_in (front ++ later))
@@ -120,7 +120,7 @@ build_here config within clock P n c go =
       reaches = refl;
     }
 
-build : (config : Config) (within : ℕ) (clock : ℕ → ℕ) (P : List Item → Type 0) (order : List Item) (n n2 : Node) → IsTimed clock n → (IsTimed clock n2 → GoesOn within P n2)
+pub build : (config : Config) (within : ℕ) (clock : ℕ → ℕ) (P : List Item → Type 0) (order : List Item) (n n2 : Node) → IsTimed clock n → (IsTimed clock n2 → GoesOn within P n2)
     → Goes config within n order n2 → IsBuilt config within P order n n2
 build config within clock P [] n n2 c go e =
     let c2 : IsTimed clock n2 = subst (λ (v : Node). IsTimed clock v) e c in
@@ -186,12 +186,12 @@ build config within clock P (Ended e ∷ order) n n2 c go k =
 
 -- ---- chains without routes from the fresh member
 
-from_begins : EachOwedCanBeMet → (config : Config) (records : List ShownRecord) → Begins config records → (m : Member) × BareReaches config fresh_member records m
+pub from_begins : EachOwedCanBeMet → (config : Config) (records : List ShownRecord) → Begins config records → (m : Member) × BareReaches config fresh_member records m
 from_begins law config records begins =
     let k = (begins_by_chains law config records).0 begins in
     (bare k.0, (bare_chains config records fresh_member (bare k.0)).1 (k.0, k.1, refl))
 
-to_begins : EachOwedCanBeMet → (config : Config) (records : List ShownRecord) (m : Member) → BareReaches config fresh_member records m → Begins config records
+pub to_begins : EachOwedCanBeMet → (config : Config) (records : List ShownRecord) (m : Member) → BareReaches config fresh_member records m → Begins config records
 to_begins law config records m k =
     let x = (bare_chains config records fresh_member m).0 k in
     (begins_by_chains law config records).1 (x.0, x.1)
@@ -223,14 +223,14 @@ explained_is_reached law config within exchange count x =
     (r.0, (items_in x.front, (first, (x.start, x.way.starts, k.1.0, k.1.1, refl), r.1), x.counts))
 
 -- the node at which an exchange begins goes by its clock
-first_timed : (exchange : Exchange) (start : State) (m : Member) (told : IsTold exchange) → IsTimed told.clock (first_node exchange start m)
+pub first_timed : (exchange : Exchange) (start : State) (m : Member) (told : IsTold exchange) → IsTimed told.clock (first_node exchange start m)
 first_timed exchange start m told = record { clocked = told.go_by; bound = told_seconds exchange told }
 
 -- an order that the packets allow
-abbrev IsAllowedFor : ℕ → Exchange → List Item → Type 0
+abbrev pub IsAllowedFor : ℕ → Exchange → List Item → Type 0
 IsAllowedFor within exchange order = IsAllowed within exchange.received.now exchange.sent.now exchange.end order
 
-built_way : (config : Config) (within : ℕ) (exchange : Exchange) (P : List Item → Type 0) (order : List Item) (start : State) (m : Member) (n2 : Node) (told : IsTold exchange)
+pub built_way : (config : Config) (within : ℕ) (exchange : Exchange) (P : List Item → Type 0) (order : List Item) (start : State) (m : Member) (n2 : Node) (told : IsTold exchange)
     → (b : IsBuilt config within P order (first_node exchange start m) n2)
     → IsAllowedFor within exchange (items_in (b.front ++ b.later))
 built_way config within exchange P order start m n2 told b =

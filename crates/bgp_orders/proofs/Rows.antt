@@ -34,7 +34,7 @@ passes_first : (config : Config) (within : ℕ) (count : ℕ) (n mid n2 : Node) 
 passes_first config within zero n mid n2 h k = (n, mid, ([], refl), h, k)
 passes_first config within (suc count) n mid n2 h k = (k.0, k.1, passes_first config within count n mid k.0 h k.2, k.3, k.4)
 
-goes_by : (config : Config) (within : ℕ) (order : List Item) (n n2 : Node) → Goes config within n order n2 → GoesBy config within n (passing order) n2
+pub goes_by : (config : Config) (within : ℕ) (order : List Item) (n n2 : Node) → Goes config within n order n2 → GoesBy config within n (passing order) n2
 goes_by config within [] n n2 k = ([], k)
 goes_by config within (Received x ∷ later) n n2 k = hears_first config within (passing later) n k.0 n2 x k.1 (goes_by config within later k.0 n2 k.2)
 goes_by config within (Sent x ∷ later) n n2 k = passes_first config within (passing later) n k.0 n2 (inl (x, k.1)) (goes_by config within later k.0 n2 k.2)
@@ -68,7 +68,7 @@ one_passes : (config : Config) (within : ℕ) (n n2 : Node) → Passes config wi
 one_passes config within n n2 (inl x) = (Sent x.0, (n2, x.1, refl), refl)
 one_passes config within n n2 (inr e) = (Ended e.0, (n2, e.1, refl), refl)
 
-from_goes_by : (config : Config) (within : ℕ) (count : ℕ) (n n2 : Node) → GoesBy config within n count n2 → (order : List Item) × Goes config within n order n2 × (passing order ≡ count)
+pub from_goes_by : (config : Config) (within : ℕ) (count : ℕ) (n n2 : Node) → GoesBy config within n count n2 → (order : List Item) × Goes config within n order n2 × (passing order ≡ count)
 from_goes_by config within zero n n2 k = (items_of k.0, hears_goes config within k.0 n n2 k.1, none_passing k.0)
 from_goes_by config within (suc count) n n2 (a, b, before, passes, behind) =
     let front = from_goes_by config within count n a before in
@@ -82,7 +82,7 @@ from_goes_by config within (suc count) n n2 (a, b, before, passes, behind) =
 
 -- ---- counts
 
-passing_is : (order : List Item) → passing order ≡ length (sent_in order) + length (ends_in order)
+pub passing_is : (order : List Item) → passing order ≡ length (sent_in order) + length (ends_in order)
 passing_is [] = refl
 passing_is (Received x ∷ later) = passing_is later
 passing_is (Sent x ∷ later) = omega (arith, passing_is later)
@@ -113,7 +113,7 @@ ends_left config within (Ended e ∷ later) n n2 k =
     omega (arith, ends_left config within later k.0 n2 k.2, none, one)
 
 -- behind the end nothing is left to be sent
-ended_last : (config : Config) (within : ℕ) (order : List Item) (n n2 : Node) → Goes config within n order n2 → (length (ends_in order) ≡ 0) ⊎ (length n2.sent ≡ 0)
+pub ended_last : (config : Config) (within : ℕ) (order : List Item) (n n2 : Node) → Goes config within n order n2 → (length (ends_in order) ≡ 0) ⊎ (length n2.sent ≡ 0)
 ended_last config within [] n n2 e = inl refl
 ended_last config within (Received x ∷ later) n n2 k = ended_last config within later k.0 n2 k.2
 ended_last config within (Sent x ∷ later) n n2 k = ended_last config within later k.0 n2 k.2

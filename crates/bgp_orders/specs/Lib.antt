@@ -7,3 +7,4 @@ pub mod Connections
 pub mod Turns
 pub mod Entries
 pub mod WholeWays
+pub mod SentPlaces

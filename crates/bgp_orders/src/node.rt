@@ -174,7 +174,7 @@ fn has_free<A: Allocator>(members: &[PlainMember<A>]) -> bool
 }
 
 /// Checks whether there is a member.
-fn has_any<A: Allocator>(members: &[PlainMember<A>]) -> bool
+pub(crate) fn has_any<A: Allocator>(members: &[PlainMember<A>]) -> bool
     ensures { IsTrue result ↔ (members.now ≢ []) }
 {
     !members.is_empty()

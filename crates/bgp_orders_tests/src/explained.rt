@@ -109,13 +109,13 @@ const OPEN_LATE: Message<'static> = Message {
 
 /// An exchange, how much of it is explained, and in which state the session ends if some way is
 /// whole.
-struct Row {
+pub(crate) struct Row {
     received: &'static [Message<'static>],
     sent: &'static [Message<'static>],
     end: Option<End>,
-    delays: bool,
-    within: u16,
-    explained: Explained,
+    pub(crate) delays: bool,
+    pub(crate) within: u16,
+    pub(crate) explained: Explained,
     ends: Option<Fsm>,
 }
 
@@ -239,7 +239,7 @@ const REJECTED_AT_101: Message<'static> = Message {
 };
 
 /// The rows.
-static ROWS: [Row; 18] = [
+pub(crate) static ROWS: [Row; 18] = [
     // The session comes up, and B announces a route.
     Row {
         received: &[OPEN_CAME, KEEPALIVE_CAME, ROUTE_CAME],
@@ -466,7 +466,7 @@ pub(crate) fn router_a(delays: bool) -> Option<Config> {
 }
 
 /// A row's exchange, over a connection that this side opened.
-fn exchange_of(row: &Row, opened_by: Side) -> Exchange<'static, 'static> {
+pub(crate) fn exchange_of(row: &Row, opened_by: Side) -> Exchange<'static, 'static> {
     Exchange {
         opened_by,
         packet: 1,

@@ -9,3 +9,5 @@ mod all_ways;
 mod connections;
 #[cfg(test)]
 mod explained;
+#[cfg(test)]
+mod instead;

@@ -67,7 +67,8 @@ change moment second state (Some led) =
 
 -- The records of an order from a state on, each with its packet: the messages, and right after each
 -- message and the end the changes to which it leads, with its packet and at its second in the
--- order, which may be later than the packet's. The end itself has none. `before` is what stands just before.
+-- order, which may be later than the packet's. The end itself has none. `before` is what stands just
+-- before.
 abbrev pub numbered_in : State → Before → List Event → List Numbered
 numbered_in state before [] = []
 numbered_in state before (Passed second (Received m) ∷ later) =

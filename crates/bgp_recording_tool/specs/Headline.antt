@@ -211,8 +211,9 @@ TellsAs config octets (Refused refusal) =
 abbrev pub JudgeTellsTheCapture : Type 0
 JudgeTellsTheCapture =
     (config : Config) (report : Report) (imports judges : Import) (number : Option ℕ)
-    (packets : List Recorded) (segments : List Segment) (connection : Connection) (entries : List Entry) (notes : Notes)
-    (octets : List ℕ) (named : Option ℕ) (told : Told) (remarks : List Remark)
+    (packets : List Recorded) (segments : List Segment) (connection : Connection)
+    (entries : List Entry) (notes : Notes) (octets : List ℕ) (named : Option ℕ) (told : Told)
+    (remarks : List Remark)
     → CanBeNamed config.parts.session
     → judges.selection.session ≡ config.parts.session
     → MeanTheSame imports judges

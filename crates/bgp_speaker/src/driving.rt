@@ -51,10 +51,10 @@ fn again<'a>(input: &Input<'a>) -> Input<'a>
 
 /// What a fresh core does on these inputs, one after another, each at its second; one below the
 /// last is taken as the last. The core offers nothing about routes, whatever is configured: so all
-/// this is said of the configuration without its offers. The records are those of a run of the session machine which ends with
-/// the answered state and routes, and the octets those of the sent messages. Each connection is
-/// heard: the messages received on it are the first of those that stand in its octets, and all of
-/// them while it stands. Refused for memory, nothing is left.
+/// this is said of the configuration without its offers. The records are those of a run of the
+/// session machine which ends with the answered state and routes, and the octets those of the sent
+/// messages. Each connection is heard: the messages received on it are the first of those that stand
+/// in its octets, and all of them while it stands. Refused for memory, nothing is left.
 pub fn drive<A: Allocator + Copy>(
     alloc: A,
     config: &Config,

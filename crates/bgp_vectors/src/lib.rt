@@ -1,10 +1,14 @@
-//! What tests and programs of several crates configure a router to. No command uses it.
+//! What tests and programs of several crates configure a router to, and the line that tells such a
+//! configuration in a table. No command uses it.
 //!
 //! `vectors` of `bgp_wire` has the messages that this router sends and receives.
 #![tactic(auto)]
 
+mod told;
+
 use bgp_open::{ConfigParts, Families, RouteOffer};
 use bgp_prefix::{Address, RouteRefresh, Session};
+pub use told::{config_of, families_of, offer_of, parts_of};
 
 /// What router A is configured to do: AS 65001 at 192.0.2.1, with AS 65002 at 192.0.2.2, Hold Time
 /// 90, both families and four-octet AS numbers. It may have offered route refresh.

@@ -32,11 +32,18 @@ IsWhyNotSent link (Received second octets) why = why ≡ None
 IsWhyNotSent link (Sent second octets) why = IsWhyNot (limit_on link) octets why
 IsWhyNotSent link (Changed second old new) why = why ≡ None
 
--- the line, if there is one: the message's name has the faults of a header
+-- why the octets don't fit; the message's name has the faults of a header
+abbrev pub unfit_text : NotWhole → List ℕ
+unfit_text (Faulty errors) = []
+unfit_text BelowHeader = codes "fewer octets than a header has"
+unfit_text OtherCount = codes "another count of octets than its Length says"
+
+abbrev pub unfit_line : NotWhole → List ℕ
+unfit_line why = line (codes "not a whole message: " ++ unfit_text why)
+
+-- the line, if there is one
 abbrev pub not_whole_line : Option NotWhole → List ℕ
 not_whole_line None = []
 not_whole_line (Some (Faulty errors)) = []
-not_whole_line (Some BelowHeader) =
-    line (codes "not a whole message: fewer octets than a header has")
-not_whole_line (Some OtherCount) =
-    line (codes "not a whole message: another count of octets than its Length says")
+not_whole_line (Some BelowHeader) = unfit_line BelowHeader
+not_whole_line (Some OtherCount) = unfit_line OtherCount

@@ -179,8 +179,8 @@ fn put_outcomes<W: Sink>(lines: &mut Lines<'_, W>, applied: Option<Applying>, re
     put_refused(lines, fourth, refused);
 }
 
-/// All that is allowed of it, and why, or that it is without fault.
-fn put_update_asks<W: Sink>(
+/// Puts all that is allowed of an UPDATE, and why, after its name; or `: without fault`.
+pub fn put_update_asks<W: Sink>(
     lines: &mut Lines<'_, W>,
     applied: Option<Applying>,
     refused: &Subcodes,

@@ -150,8 +150,9 @@ fn put_update<W: Sink>(lines: &mut Lines<'_, W>, state: Fsm)
     }
 }
 
-/// What a message asks for in a state, where the peer's AS number may be free.
-fn put_asked<W: Sink>(lines: &mut Lines<'_, W>, is_free: bool, state: Fsm, message: &Received)
+/// Puts what a message asks for in a state, where the peer's AS number may be free, after the
+/// message's name: `: ends the session`, or nothing.
+pub fn put_asked<W: Sink>(lines: &mut Lines<'_, W>, is_free: bool, state: Fsm, message: &Received)
     ensures { Writes lines.old lines.new (asked_text is_free state message.now) }
 {
     match message {

@@ -24,11 +24,11 @@ use bgp_wire::HeaderFaults;
 use mrt::Sink;
 
 /// How many items there are.
-pub(crate) const ITEMS: usize = 17;
+pub const ITEMS: usize = 17;
 
 /// One of those that may follow.
 #[derive(Clone, Copy)]
-pub(crate) enum Item {
+pub enum Item {
     /// A message is received.
     ReceivedMessage,
     /// The local system's OPEN is sent.
@@ -278,7 +278,7 @@ pub(crate) fn put_way<W: Sink>(lines: &mut Lines<'_, W>, first: Seconds, item: &
 }
 
 /// Puts the text of an item.
-pub(crate) fn put_item<W: Sink>(lines: &mut Lines<'_, W>, first: Seconds, item: &Item)
+pub fn put_item<W: Sink>(lines: &mut Lines<'_, W>, first: Seconds, item: &Item)
     ensures { Writes lines.old lines.new (item_text first item.now) }
 {
     put_due(lines, item);

@@ -223,7 +223,7 @@ pub(crate) fn put_lacks<W: Sink, A: Allocator>(
 }
 
 /// Puts what a record lacks of an item, if it resembles this one.
-pub(crate) fn put_but<W: Sink, A: Allocator>(
+pub fn put_but<W: Sink, A: Allocator>(
     lines: &mut Lines<'_, W>,
     own_faults: Option<OwnFaults>,
     item: &Item,

@@ -139,7 +139,7 @@ fn put_faulty<W: Sink>(lines: &mut Lines<'_, W>, faults: &HeaderFaults)
 }
 
 /// Puts how a message is called: `UPDATE`, or `NOTIFICATION 6/4 (Cease, Administrative Reset)`.
-pub(crate) fn put_name<W: Sink>(lines: &mut Lines<'_, W>, name: &MessageName)
+pub fn put_name<W: Sink>(lines: &mut Lines<'_, W>, name: &MessageName)
     ensures { Writes lines.old lines.new (name_text name.now) }
 {
     match name {

@@ -2,13 +2,13 @@
 
 ghost use Rattle.std.specs.Prelude.{◌≡◌, ◌∷◌, []};
 ghost use Rattle.bgp_text.specs.Lines.{Writes};
-ghost use Rattle.bgp_why.specs.Items.{first_word, next_word, those_possible};
+ghost use Rattle.bgp_why.specs.Items.{all_items, first_word, next_word, those_possible};
 ghost use Rattle.bgp_why.specs.Lacks.{but_text};
 ghost use Rattle.bgp_why.specs.Possible.{item_line, item_lines, possible_but_lines};
 ghost use Rattle.bgp_why.specs.Possible.{possible_lines, possible_shown, shown_lines};
 ghost use Rattle.bgp_why.specs.Possible.{states_without};
 
-use crate::items::{Item, items_of, put_item};
+use crate::items::{ITEMS, Item, items_of, put_item};
 use crate::lacks::{Lacks, put_but};
 use crate::style::Style;
 use bgp_machine::Fsm;
@@ -61,6 +61,14 @@ fn possible_shown(is_recording: bool, possible: &Possible) -> Possible
     } else {
         *possible
     }
+}
+
+/// Returns the items that are shown, in the order of their lines, or `None` in the place of each
+/// that isn't possible.
+pub fn shown_items(style: &Style, possible: &Possible) -> [Option<Item>; ITEMS]
+    ensures { result ≡ all_items (possible_shown style.now.is_recording possible.now) }
+{
+    items_of(&possible_shown(style.is_recording, possible))
 }
 
 /// The words before the first item.

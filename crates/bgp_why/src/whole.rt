@@ -4,7 +4,8 @@ ghost use Rattle.std.specs.Prelude.{◌≡◌};
 ghost use Rattle.mrt.specs.Reader.{shown_of};
 ghost use Rattle.bgp_machine.specs.Want.{limit_on};
 ghost use Rattle.bgp_text.specs.Lines.{Writes};
-ghost use Rattle.bgp_why.specs.NotWhole.{IsWhyNot, IsWhyNotSent, not_whole_line};
+ghost use Rattle.bgp_why.specs.NotWhole.{IsWhyNot, IsWhyNotSent, not_whole_line, unfit_line};
+ghost use Rattle.bgp_why.specs.NotWhole.{unfit_text};
 
 use bgp_open::Link;
 use bgp_text::Lines;
@@ -64,6 +65,27 @@ impl NotWhole {
     }
 }
 
+/// Returns why the octets of a message don't fit, or an empty text if its header has faults, which
+/// are in the message's name.
+pub fn unfit_text(why: NotWhole) -> &'static str
+    ensures { result.now ≡ unfit_text why }
+{
+    match why {
+        NotWhole::Faulty(_) => "",
+        NotWhole::BelowHeader => "fewer octets than a header has",
+        NotWhole::OtherCount => "another count of octets than its Length says",
+    }
+}
+
+/// That a message isn't whole, and why.
+fn put_unfit<W: Sink>(lines: &mut Lines<'_, W>, why: NotWhole)
+    ensures { Writes lines.old lines.new (unfit_line why) }
+{
+    lines.put(b"  not a whole message: ");
+    lines.put(unfit_text(why).as_bytes());
+    lines.put(b"\n");
+}
+
 /// Puts `not a whole message: ` and why, if its octets don't fit. The message's name has the faults
 /// of a header.
 pub fn put_not_whole<W: Sink>(lines: &mut Lines<'_, W>, why: Option<NotWhole>)
@@ -72,11 +94,7 @@ pub fn put_not_whole<W: Sink>(lines: &mut Lines<'_, W>, why: Option<NotWhole>)
     match why {
         None => lines.put(b""),
         Some(NotWhole::Faulty(_)) => lines.put(b""),
-        Some(NotWhole::BelowHeader) => {
-            lines.put(b"  not a whole message: fewer octets than a header has\n");
-        }
-        Some(NotWhole::OtherCount) => {
-            lines.put(b"  not a whole message: another count of octets than its Length says\n");
-        }
+        Some(NotWhole::BelowHeader) => put_unfit(lines, NotWhole::BelowHeader),
+        Some(NotWhole::OtherCount) => put_unfit(lines, NotWhole::OtherCount),
     }
 }

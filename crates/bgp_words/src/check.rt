@@ -9,7 +9,7 @@ ghost use Rattle.bgp_words.specs.Import.{IsChecking};
 ghost use Rattle.bgp_words.specs.Spelled.{NamesBy};
 
 use crate::misfit::Misfit;
-use crate::options::{READ, Word, with_words};
+use crate::options::{READ, Word, new_command, with_words};
 use crate::recording::{PORT, WITHIN};
 use crate::values::{has_flag, port_of, seconds_of, value_of};
 use crate::words::Command;
@@ -110,10 +110,13 @@ pub(crate) fn check_words<'a>(alloc: Global) -> Result<clap::Command<'a>, AllocE
     ensures words { IfOk result (λ check. app_of check ≡ check_words) }
     ensures local { IfOk result (λ check. (fields_of check).has_globals ≡ false) }
 {
-    let check = clap::Command::new(alloc, "check")
-        .about("Says whether the ends of each session in a file kept to the standard")
-        .after_help(CHECKED)
-        .display_order(0);
+    let check = new_command(
+        alloc,
+        "check",
+        "Says whether the ends of each session in a file kept to the standard",
+        CHECKED,
+    )
+    .display_order(0);
     with_words(alloc, check, &WORDS)
 }
 

@@ -12,7 +12,7 @@ ghost use Rattle.bgp_words.specs.Values.{is_given};
 ghost use Rattle.bgp_import.specs.declared.options.RecordingOptions.{RecordingOptions as Told};
 
 use crate::misfit::Misfit;
-use crate::options::{READ, Word, with_words};
+use crate::options::{READ, Word, new_command, with_words};
 use crate::recording::{recording_of, refresh_of, with_recording};
 use crate::values::{address_of, has_flag, has_value, value_of};
 use crate::words::Command;
@@ -58,9 +58,9 @@ decode --names prints the same in words, with bars between the parts of a line:
                         error code, subcode, their names, and what the data says
   rest 3: ffffff        the octets of the unfinished message
 What doesn't have its form is in hexadecimal after the word octets, what has no name after its
-number. AS numbers have four octets unless an OPEN before them lacks capability 65. A stream has one
-direction: if the other side's OPEN lacks it, give --as2, with --json too. So too where a capture
-lacks that OPEN.
+number. With --names and with --json, AS numbers have four octets unless an OPEN before them lacks
+capability 65. A stream has one direction, so it shows only one side's OPEN: give --as2 if that of
+the other side lacks the capability. Do the same if a capture lacks that OPEN.
 decode --json prints each line as a JSON object, whose type says which line it is:
   {\"type\":\"keepalive\",\"at\":89}
                         at: the octet of the stream where the message begins
@@ -122,9 +122,12 @@ pub(crate) fn decode_words<'a>(alloc: Global) -> Result<clap::Command<'a>, Alloc
     ensures words { IfOk result (λ decode. app_of decode ≡ decode_words) }
     ensures local { IfOk result (λ decode. (fields_of decode).has_globals ≡ false) }
 {
-    let decode = clap::Command::new(alloc, "decode")
-        .about("Prints the BGP messages of a raw stream or of a capture, one a line")
-        .after_help(LINES);
+    let decode = new_command(
+        alloc,
+        "decode",
+        "Prints the BGP messages of a raw stream or of a capture, one a line",
+        LINES,
+    );
     let decode = with_words(alloc, decode, &WORDS)?;
     with_recording(alloc, decode)
 }
@@ -186,7 +189,7 @@ fn stream_of<'a>(decode: &ArgMatches<'a>) -> Result<Command<'a>, Misfit<'a>>
         return Err(Misfit::Missing { name: "mrt" });
     }
     if has_flag(decode, "skip-refresh") {
-        return Err(Misfit::SkipsInStream);
+        return Err(Misfit::SKIPS_IN_STREAM);
     }
     Ok(Command::Decode {
         form,
@@ -204,7 +207,7 @@ fn form_of<'a>(decode: &ArgMatches<'a>) -> Result<OutputForm, Misfit<'a>>
     let names = has_flag(decode, "names");
     if has_flag(decode, "json") {
         if names {
-            return Err(Misfit::TwoForms);
+            return Err(Misfit::TWO_FORMS);
         }
         return Ok(OutputForm::Json { as2 });
     }
@@ -212,7 +215,7 @@ fn form_of<'a>(decode: &ArgMatches<'a>) -> Result<OutputForm, Misfit<'a>>
         return Ok(OutputForm::Text(LineForm::Names { as2 }));
     }
     if as2 {
-        return Err(Misfit::As2Alone);
+        return Err(Misfit::AS2_ALONE);
     }
     Ok(OutputForm::Text(LineForm::Plain))
 }

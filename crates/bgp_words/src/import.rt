@@ -9,7 +9,7 @@ ghost use Rattle.bgp_words.specs.Spelled.{NamesBy};
 ghost use Rattle.bgp_import.specs.declared.options.RecordingOptions.{RecordingOptions as Told};
 
 use crate::misfit::Misfit;
-use crate::options::{READ, Word, with_words};
+use crate::options::{READ, Word, new_command, with_words};
 use crate::recording::{recording_of, refresh_of, with_recording};
 use crate::settings::{is_of_one_family, session_of};
 use crate::values::value_of;
@@ -69,9 +69,12 @@ pub(crate) fn import_words<'a>(alloc: Global) -> Result<clap::Command<'a>, Alloc
     ensures words { IfOk result (λ import. app_of import ≡ import_words) }
     ensures local { IfOk result (λ import. (fields_of import).has_globals ≡ false) }
 {
-    let import = clap::Command::new(alloc, "import")
-        .about("Makes a capture of a recording of packets")
-        .after_help(IMPORTED);
+    let import = new_command(
+        alloc,
+        "import",
+        "Makes a capture of a recording of packets",
+        IMPORTED,
+    );
     let import = with_words(alloc, import, &WORDS)?;
     with_recording(alloc, import)
 }
@@ -85,11 +88,11 @@ pub(crate) fn import_of<'a>(import: &ArgMatches<'a>) -> Result<Command<'a>, Misf
     let refresh = refresh_of(import, false);
     let session = session_of(import, refresh)?;
     if !is_of_one_family(&session) {
-        return Err(Misfit::TwoFamilies);
+        return Err(Misfit::TWO_FAMILIES);
     }
     let recording = recording_of(import)?;
     if !are_apart(&session, recording.local_port) {
-        return Err(Misfit::OneAddress);
+        return Err(Misfit::ONE_ADDRESS);
     }
     let file = value_of(import, "FILE")?;
     let out = value_of(import, "OUT")?;

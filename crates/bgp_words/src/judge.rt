@@ -10,7 +10,7 @@ ghost use Rattle.bgp_words.specs.Spelled.{NamesBy};
 ghost use Rattle.bgp_import.specs.declared.options.RecordingOptions.{RecordingOptions as Told};
 
 use crate::misfit::Misfit;
-use crate::options::{READ, Word, with_word};
+use crate::options::{READ, Word, new_command, with_word};
 use crate::recording::{recording_of, refresh_of, with_recording};
 use crate::settings::{config_of, with_settings};
 use crate::values::{has_flag, value_of};
@@ -118,10 +118,13 @@ pub(crate) fn judge_words<'a>(alloc: Global) -> Result<clap::Command<'a>, AllocE
     ensures words { IfOk result (λ judge. app_of judge ≡ judge_words) }
     ensures local { IfOk result (λ judge. (fields_of judge).has_globals ≡ false) }
 {
-    let judge = clap::Command::new(alloc, "judge")
-        .about("Says whether a router that keeps to the standard can have done what FILE shows")
-        .override_usage(USAGE)
-        .after_help(VERDICTS);
+    let judge = new_command(
+        alloc,
+        "judge",
+        "Says whether a router that keeps to the standard can have done what FILE shows",
+        VERDICTS,
+    )
+    .override_usage(USAGE);
     let judge = with_word(alloc, judge, READ)?;
     let judge = with_settings(alloc, judge)?;
     let judge = with_word(alloc, judge, OFFERS)?;

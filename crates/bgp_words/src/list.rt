@@ -8,7 +8,7 @@ ghost use Rattle.bgp_words.specs.Import.{IsListing};
 ghost use Rattle.bgp_words.specs.Spelled.{NamesBy};
 
 use crate::misfit::Misfit;
-use crate::options::{READ, Word, with_words};
+use crate::options::{READ, Word, new_command, with_words};
 use crate::recording::PORT;
 use crate::values::{has_flag, port_of, value_of};
 use crate::words::Command;
@@ -69,9 +69,12 @@ pub(crate) fn list_words<'a>(alloc: Global) -> Result<clap::Command<'a>, AllocEr
     ensures words { IfOk result (λ list. app_of list ≡ list_words) }
     ensures local { IfOk result (λ list. (fields_of list).has_globals ≡ false) }
 {
-    let list = clap::Command::new(alloc, "list")
-        .about("Lists the connections in a recording, or the sessions in a capture")
-        .after_help(LISTED);
+    let list = new_command(
+        alloc,
+        "list",
+        "Lists the connections in a recording, or the sessions in a capture",
+        LISTED,
+    );
     with_words(alloc, list, &WORDS)
 }
 

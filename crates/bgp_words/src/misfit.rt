@@ -57,8 +57,8 @@ impl Display for Wanted {
 /// Why words that clap takes are no command: one sentence.
 #[derive(Clone, Copy)]
 pub(crate) enum Misfit<'a> {
-    /// None was named.
-    NoCommand,
+    /// A sentence in which none of the words stands.
+    Sentence(&'a str),
     /// The word after the program's name is none.
     UnknownCommand {
         /// The word.
@@ -109,19 +109,11 @@ pub(crate) enum Misfit<'a> {
         /// The command.
         command: &'a str,
     },
-    /// `import` names no file to write.
-    NoOut,
     /// An option is missing beside others.
     Missing {
         /// The option's name.
         name: &'a str,
     },
-    /// The messages to pass over are a stream's, and not a session's.
-    SkipsInStream,
-    /// AS numbers are to have two octets, and what is printed shows none.
-    As2Alone,
-    /// Both words and JSON are to be printed.
-    TwoForms,
     /// The value of an option isn't what it wants.
     Value {
         /// The option's name.
@@ -131,83 +123,125 @@ pub(crate) enum Misfit<'a> {
         /// What it wants.
         wanted: Wanted,
     },
+}
+
+impl Misfit<'static> {
+    /// None was named.
+    pub(crate) const NO_COMMAND: Misfit<'static> = Misfit::Sentence(
+        "no command is named, as in `bgp check FILE`: `bgp help` lists them",
+    );
+
+    /// `import` names no file to write.
+    pub(crate) const NO_OUT: Misfit<'static> = Misfit::Sentence(
+        "OUT is missing, the MRT file to write: `-` is standard output",
+    );
+
+    /// The messages to pass over are a stream's, and not a session's.
+    pub(crate) const SKIPS_IN_STREAM: Misfit<'static> = Misfit::Sentence(
+        "--skip-refresh wants --mrt, --peer and --local: of a raw stream all is printed",
+    );
+
+    /// AS numbers are to have two octets, and what is printed shows none.
+    pub(crate) const AS2_ALONE: Misfit<'static> = Misfit::Sentence(
+        "--as2 wants --names or --json: without them no AS path is read",
+    );
+
+    /// Both words and JSON are to be printed.
+    pub(crate) const TWO_FORMS: Misfit<'static> = Misfit::Sentence(
+        "--names and --json are both given: decode prints one of both",
+    );
+
     /// An AS number has more than two octets, and four-octet ones aren't offered.
-    FourOctets,
+    pub(crate) const FOUR_OCTETS: Misfit<'static> = Misfit::Sentence(
+        "with --as2, --local-as and --peer-as want numbers up to 65535",
+    );
+
     /// Neither way is given in which a connection may come to be.
-    NoStart,
+    pub(crate) const NO_START: Misfit<'static> = Misfit::Sentence(
+        "--connect or --listen is missing: speak wants one of both",
+    );
+
     /// Both are.
-    TwoStarts,
+    pub(crate) const TWO_STARTS: Misfit<'static> = Misfit::Sentence(
+        "--connect and --listen are both given: speak wants one of both",
+    );
+
     /// The two addresses of a session to speak in or to import are of two families.
-    TwoFamilies,
+    pub(crate) const TWO_FAMILIES: Misfit<'static> = Misfit::Sentence(
+        "--local and --peer want addresses of one family: both IPv4 or both IPv6",
+    );
+
     /// They are one, and the port that tells the two ends apart isn't given.
-    OneAddress,
+    pub(crate) const ONE_ADDRESS: Misfit<'static> = Misfit::Sentence(
+        "where --local and --peer are one address, --local-port is wanted too",
+    );
 }
 
 impl Display for Misfit<'_> {
     fn fmt<W: fmt::Write>(&self, f: &mut fmt::Formatter<W>) -> fmt::Result {
         match *self {
-            Misfit::NoCommand => {
-                f.write_str("no command is named, as in `bgp check FILE`: `bgp help` lists them")
-            }
+            Misfit::Sentence(sentence) => f.write_str(sentence),
             Misfit::UnknownCommand { word, near } => put_unknown_command(f, word, near),
             Misfit::UnknownOption {
                 word,
                 command,
                 near,
             } => put_unknown_option(f, word, command, near),
-            Misfit::ExtraWord { word, command } => write!(
-                f,
-                "{word:?} is one word too many: `bgp help {command}` has the words of the command"
-            ),
-            Misfit::NoValue { name } => write!(f, "--{name} wants a value after it"),
-            Misfit::NoFlag { name } => write!(f, "--{name} takes no value"),
-            Misfit::Twice { name } => write!(f, "--{name} is given twice"),
-            Misfit::Lacking { name, command } => write!(
-                f,
-                "--{name} is missing: `bgp help {command}` says what it is"
-            ),
-            Misfit::NoFile { command } => write!(
-                f,
-                "FILE is missing, as in `bgp {command} FILE`: `bgp help {command}` says what it is"
-            ),
-            Misfit::NoOut => f.write_str(
-                "OUT is missing, the MRT file to write: `-` is standard output",
-            ),
-            Misfit::Missing { name } => write!(
-                f,
-                "--{name} is missing: --mrt, --peer and --local go together"
-            ),
-            Misfit::SkipsInStream => f.write_str(
-                "--skip-refresh wants --mrt, --peer and --local: of a raw stream all is printed",
-            ),
-            Misfit::As2Alone => f.write_str(
-                "--as2 wants --names or --json: without them no AS path is read",
-            ),
-            Misfit::TwoForms => f.write_str(
-                "--names and --json are both given: decode prints one of both",
-            ),
-            Misfit::Value { name, word, wanted } => {
-                write!(f, "--{name} wants {wanted}, and {word:?} is none")
+            Misfit::ExtraWord { word, command } => put_extra_word(f, word, command),
+            Misfit::NoValue { name } => put_option(f, name, "wants a value after it"),
+            Misfit::NoFlag { name } => put_option(f, name, "takes no value"),
+            Misfit::Twice { name } => put_option(f, name, "is given twice"),
+            Misfit::Lacking { name, command } => put_lacking(f, name, command),
+            Misfit::NoFile { command } => put_no_file(f, command),
+            Misfit::Missing { name } => {
+                put_option(f, name, "is missing: --mrt, --peer and --local go together")
             }
-            Misfit::FourOctets => {
-                f.write_str("with --as2, --local-as and --peer-as want numbers up to 65535")
-            }
-            Misfit::NoStart => f.write_str(
-                "--connect or --listen is missing: speak wants one of both",
-            ),
-            Misfit::TwoStarts => {
-                f.write_str("--connect and --listen are both given: speak wants one of both")
-            }
-            Misfit::TwoFamilies => {
-                f.write_str(
-                    "--local and --peer want addresses of one family: both IPv4 or both IPv6",
-                )
-            }
-            Misfit::OneAddress => f.write_str(
-                "where --local and --peer are one address, --local-port is wanted too",
-            ),
+            Misfit::Value { name, word, wanted } => put_value(f, name, word, wanted),
         }
     }
+}
+
+/// The sentence that says this of an option.
+fn put_option<W: fmt::Write>(f: &mut fmt::Formatter<W>, name: &str, told: &str) -> fmt::Result {
+    write!(f, "--{name} {told}")
+}
+
+/// The sentence on an option that has to be given.
+fn put_lacking<W: fmt::Write>(f: &mut fmt::Formatter<W>, name: &str, command: &str) -> fmt::Result {
+    write!(
+        f,
+        "--{name} is missing: `bgp help {command}` says what it is"
+    )
+}
+
+/// The sentence on a file that isn't named.
+fn put_no_file<W: fmt::Write>(f: &mut fmt::Formatter<W>, command: &str) -> fmt::Result {
+    write!(
+        f,
+        "FILE is missing, as in `bgp {command} FILE`: `bgp help {command}` says what it is"
+    )
+}
+
+/// The sentence on a value that isn't what its option wants.
+fn put_value<W: fmt::Write>(
+    f: &mut fmt::Formatter<W>,
+    name: &str,
+    word: &str,
+    wanted: Wanted,
+) -> fmt::Result {
+    write!(f, "--{name} wants {wanted}, and {word:?} is none")
+}
+
+/// The sentence on a word that the command has no place for.
+fn put_extra_word<W: fmt::Write>(
+    f: &mut fmt::Formatter<W>,
+    word: &str,
+    command: &str,
+) -> fmt::Result {
+    write!(
+        f,
+        "{word:?} is one word too many: `bgp help {command}` has the words of the command"
+    )
 }
 
 /// The sentence on a word that is no command, and the command that is most like it.

@@ -1,7 +1,7 @@
 //! What words a command may have: its file, flags and options.
 
 ghost use Rattle.std.specs.Prelude.{◌≡◌, IfOk, fold, false};
-ghost use Rattle.clap.specs.Words.{app_of, rule_of};
+ghost use Rattle.clap.specs.Words.{app_of, new_app, rule_of};
 ghost use Rattle.clap.specs.declared.builder.command.Command.TheViews.{out-Command as fields_of};
 ghost use Rattle.bgp_words.specs.Words.{file_word, flag_word, letter_word, option_word};
 ghost use Rattle.bgp_words.specs.Words.{required_word, default_word};
@@ -29,6 +29,19 @@ pub(crate) enum Word<'a> {
 
 /// The file that a command reads.
 pub(crate) const READ: Word<'static> = Word::File("FILE", "The file to read; - is standard input");
+
+/// A command of this name without words: what it is for, and what help says at the end.
+pub(crate) fn new_command<'a>(
+    alloc: Global,
+    name: &'a str,
+    about: &'a str,
+    help: &'a str,
+) -> Command<'a>
+    ensures words { app_of result ≡ new_app name.entry.now }
+    ensures local { (fields_of result).has_globals ≡ false }
+{
+    Command::new(alloc, name).about(about).after_help(help)
+}
 
 /// The command with these words after its own.
 pub(crate) fn with_words<'a>(

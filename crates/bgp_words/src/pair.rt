@@ -8,7 +8,7 @@ ghost use Rattle.bgp_words.specs.Pair.{IsPair};
 ghost use Rattle.bgp_words.specs.Spelled.{NamesBy};
 
 use crate::misfit::Misfit;
-use crate::options::{Word, with_word};
+use crate::options::{Word, new_command, with_word};
 use crate::values::value_of;
 use crate::words::Command;
 use clap::ArgMatches;
@@ -52,9 +52,12 @@ pub(crate) fn pair_words<'a>(alloc: Global) -> Result<clap::Command<'a>, AllocEr
     ensures words { IfOk result (λ pair. app_of pair ≡ pair_words) }
     ensures local { IfOk result (λ pair. (fields_of pair).has_globals ≡ false) }
 {
-    let pair = clap::Command::new(alloc, "pair")
-        .about("Lets two ends of a session speak with one another, and judges both")
-        .after_help(PAIRED);
+    let pair = new_command(
+        alloc,
+        "pair",
+        "Lets two ends of a session speak with one another, and judges both",
+        PAIRED,
+    );
     with_word(alloc, pair, CAPTURE)
 }
 

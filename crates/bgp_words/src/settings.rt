@@ -96,7 +96,7 @@ pub(crate) fn config_of<'a>(
 {
     let parts = parts_of(matches, refresh)?;
     // Each part is one that a configuration may have, so what is left is an AS number above 65535.
-    Config::new(parts).ok_or(Misfit::FourOctets)
+    Config::new(parts).ok_or(Misfit::FOUR_OCTETS)
 }
 
 /// The parts of a configuration that the values of a command are.

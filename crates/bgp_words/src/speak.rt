@@ -11,7 +11,7 @@ ghost use Rattle.bgp_talk.specs.declared.options.Speaking.{Speaking as Spoken};
 ghost use Rattle.bgp_talk.specs.declared.options.Start.{Start as Started};
 
 use crate::misfit::Misfit;
-use crate::options::{Word, with_word, with_words};
+use crate::options::{Word, new_command, with_word, with_words};
 use crate::settings::{config_of, is_of_one_family, with_settings};
 use crate::values::{
     has_flag, has_value, is_cleared, next_hop4_of, next_hop6_of, port_of, prefix_of, turns_of,
@@ -96,10 +96,13 @@ pub(crate) fn speak_words<'a>(alloc: Global) -> Result<clap::Command<'a>, AllocE
     ensures words { IfOk result (λ speak. app_of speak ≡ speak_words) }
     ensures local { IfOk result (λ speak. (fields_of speak).has_globals ≡ false) }
 {
-    let speak = clap::Command::new(alloc, "speak")
-        .about("Speaks with a peer over TCP, and writes down the session as a capture")
-        .override_usage(USAGE)
-        .after_help(SPOKEN);
+    let speak = new_command(
+        alloc,
+        "speak",
+        "Speaks with a peer over TCP, and writes down the session as a capture",
+        SPOKEN,
+    )
+    .override_usage(USAGE);
     let speak = with_word(alloc, speak, CAPTURE)?;
     let speak = with_settings(alloc, speak)?;
     with_speaking(alloc, speak)
@@ -125,7 +128,7 @@ pub(crate) fn speak_of<'a>(speak: &ArgMatches<'a>) -> Result<Command<'a>, Misfit
 {
     let config = config_of(speak, RouteRefresh::NotOffered)?;
     if !is_of_one_family(&config.parts.session) {
-        return Err(Misfit::TwoFamilies);
+        return Err(Misfit::TWO_FAMILIES);
     }
     let speaking = speaking_of(speak)?;
     let file = value_of(speak, "FILE")?;
@@ -159,12 +162,12 @@ fn start_of<'a>(speak: &ArgMatches<'a>) -> Result<Start, Misfit<'a>>
 {
     if has_value(speak, "connect") {
         if has_value(speak, "listen") {
-            return Err(Misfit::TwoStarts);
+            return Err(Misfit::TWO_STARTS);
         }
         return Ok(Start::Connect(port_of(speak, "connect")?));
     }
     if has_value(speak, "listen") {
         return Ok(Start::Listen(port_of(speak, "listen")?));
     }
-    Err(Misfit::NoStart)
+    Err(Misfit::NO_START)
 }

@@ -4,7 +4,7 @@ ghost use Rattle.std.specs.Prelude.{◌≡◌, IfOk};
 ghost use Rattle.clap.specs.Words.{kind_of};
 
 use crate::misfit::Misfit;
-use crate::words::words_named;
+use crate::words::{program, words_named};
 use clap::error::ErrorKind;
 use clap::{Arg, ArgAction, Command, Error};
 use std::alloc::{AllocError, Global};
@@ -15,11 +15,10 @@ use strsim::osa_distance;
 const NEAR: usize = 2;
 
 /// Says in a sentence what is wrong with words in which a parse found a fault, and the usage of the
-/// command that they name behind the program's own name. `program` is what they may be. A request
-/// for help or for the version stays as it is.
+/// command that they name behind the program's own name. A request for help or for the version stays
+/// as it is.
 pub(crate) fn plain<'a, S: AsStr>(
     alloc: Global,
-    program: Command<'a>,
     words: &'a [S],
     error: Error,
 ) -> Result<Error, AllocError>
@@ -28,22 +27,35 @@ pub(crate) fn plain<'a, S: AsStr>(
     let kind = error.kind();
     match kind {
         ErrorKind::DisplayHelp | ErrorKind::DisplayVersion | ErrorKind::OutOfMemory => Ok(error),
-        _ => of_program(alloc, program, words, kind),
+        _ => of_kind(alloc, words, kind),
     }
 }
 
 /// Says what is wrong with words that have a fault of this kind.
-fn of_program<'a, S: AsStr>(
+fn of_kind<'a, S: AsStr>(
     alloc: Global,
-    program: Command<'a>,
     words: &'a [S],
     kind: ErrorKind,
 ) -> Result<Error, AllocError>
     ensures { IfOk result (λ it. kind_of it ≡ kind) }
 {
+    let program = program(alloc)?;
     let misfit = program_misfit(alloc, &program, words)?;
+    error_of(alloc, command_name(words), misfit, kind)
+}
+
+/// The error of this kind that says in a sentence what is wrong with the words of the command of
+/// this name, or of the program if there is none, and then its usage.
+pub(crate) fn error_of(
+    alloc: Global,
+    name: Option<&str>,
+    misfit: Misfit<'_>,
+    kind: ErrorKind,
+) -> Result<Error, AllocError>
+    ensures { IfOk result (λ it. kind_of it ≡ kind) }
+{
     let sentence = format!(in alloc; "{misfit}")?;
-    let mut command = words_named(alloc, command_name(words))?;
+    let mut command = words_named(alloc, name)?;
     command.error(kind, sentence.as_str())
 }
 
@@ -72,7 +84,7 @@ fn program_misfit<'a, S: AsStr>(
     words: &'a [S],
 ) -> Result<Misfit<'a>, AllocError> {
     let [_, name, rest @ ..] = words else {
-        return Ok(Misfit::NoCommand);
+        return Ok(Misfit::NO_COMMAND);
     };
     let name = name.as_str();
     match command_named(program, name) {
@@ -282,6 +294,6 @@ fn lacking<'a, S: AsStr>(command: &Command<'a>, words: &'a [S], files: usize) ->
             command: command.get_name(),
         }
     } else {
-        Misfit::NoOut
+        Misfit::NO_OUT
     }
 }

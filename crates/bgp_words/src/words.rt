@@ -1,8 +1,10 @@
 //! The words of the command line, as a command.
 
 ghost use Rattle.std.specs.Prelude.{◌≡◌, ◌≢◌, ◌∷◌, ℕ, Bool, List, All, map, IfOk, IfErr, IsErr};
-ghost use Rattle.std.specs.Prelude.{true};
-ghost use Rattle.clap.specs.Words.{app_of, kind_of, subcommand_rows_of, IsAmong};
+ghost use Rattle.std.specs.Prelude.{true, false};
+ghost use Rattle.clap.specs.Words.{App, app_of, kind_of, subcommand_rows_of, with_subcommand};
+ghost use Rattle.clap.specs.Words.{IsAmong};
+ghost use Rattle.clap.specs.declared.builder.command.Command.TheViews.{out-Command as fields_of};
 ghost use Rattle.clap.specs.Words.{FailsBy, HasMatchesOf, fault_of, is_simple_and_free};
 ghost use Rattle.bgp_json.specs.declared.output_form.OutputForm.{OutputForm as Form};
 ghost use Rattle.bgp_open.specs.declared.config.Config.{Config as Configured};
@@ -22,9 +24,10 @@ use crate::import::{import_of, import_words};
 use crate::judge::{judge_of, judge_words};
 use crate::list::{list_of, list_words};
 use crate::misfit::Misfit;
+use crate::options::new_command;
 use crate::pair::{pair_of, pair_words};
 use crate::speak::{speak_of, speak_words};
-use crate::usage::plain;
+use crate::usage::{error_of, plain};
 use bgp_import::RecordingOptions;
 use bgp_json::OutputForm;
 use bgp_open::Config;
@@ -134,14 +137,17 @@ bgp COMMAND --help says what a command prints, with examples.
 The manual is docs/bgp.1.md, at the top of the repository.";
 
 /// What the program's words may be.
-fn program<'a>(alloc: Global) -> Result<clap::Command<'a>, AllocError>
+pub(crate) fn program<'a>(alloc: Global) -> Result<clap::Command<'a>, AllocError>
     ensures { IfOk result (λ program. app_of program ≡ program_words) }
 {
-    let program = clap::Command::new(alloc, "bgp")
-        .version("0.4.0")
-        .about("Reads BGP-4 messages, captures and recordings, judges sessions, and speaks in one")
-        .after_help(STATUSES)
-        .subcommand_required(true);
+    let program = new_command(
+        alloc,
+        "bgp",
+        "Reads BGP-4 messages, captures and recordings, judges sessions, and speaks in one",
+        STATUSES,
+    )
+    .version("0.4.0")
+    .subcommand_required(true);
     // Whatever its file is named.
     let program = program.bin_name("bgp")?;
     let program = with_readers(alloc, program)?;
@@ -155,16 +161,11 @@ fn with_readers<'a>(
 ) -> Result<clap::Command<'a>, AllocError>
     ensures { IfOk result (λ it. app_of it ≡ with_readers (app_of program.entry)) }
 {
-    let decode = decode_words(alloc)?;
-    let program = program.subcommand(decode)?;
-    let judge = judge_words(alloc)?;
-    let program = program.subcommand(judge)?;
-    let import = import_words(alloc)?;
-    let program = program.subcommand(import)?;
-    let list = list_words(alloc)?;
-    let program = program.subcommand(list)?;
-    let check = check_words(alloc)?;
-    program.subcommand(check)
+    let program = with_command(program, decode_words(alloc))?;
+    let program = with_command(program, judge_words(alloc))?;
+    let program = with_command(program, import_words(alloc))?;
+    let program = with_command(program, list_words(alloc))?;
+    with_command(program, check_words(alloc))
 }
 
 /// The program with the commands that speak.
@@ -174,10 +175,23 @@ fn with_speakers<'a>(
 ) -> Result<clap::Command<'a>, AllocError>
     ensures { IfOk result (λ it. app_of it ≡ with_speakers (app_of program.entry)) }
 {
-    let speak = speak_words(alloc)?;
-    let program = program.subcommand(speak)?;
-    let pair = pair_words(alloc)?;
-    program.subcommand(pair)
+    let program = with_command(program, speak_words(alloc))?;
+    with_command(program, pair_words(alloc))
+}
+
+/// The program with a command, if there was memory for it.
+fn with_command<'a>(
+    program: clap::Command<'a>,
+    command: Result<clap::Command<'a>, AllocError>,
+) -> Result<clap::Command<'a>, AllocError>
+    ensures { (words : App) → IfOk command.entry (λ it. app_of it ≡ words)
+        → IfOk command.entry (λ it. (fields_of it).has_globals ≡ false)
+        → IfOk result (λ it. app_of it ≡ with_subcommand (app_of program.entry) words.top) }
+{
+    match command {
+        Ok(command) => program.subcommand(command),
+        Err(error) => Err(error),
+    }
 }
 
 /// The command that the words spell, the program's own name first.
@@ -202,8 +216,7 @@ pub fn command_line<'a, S: AsStr>(alloc: Global, words: &'a [S]) -> Result<Comma
     ensures values { (name : List ℕ) → All (λ row. map S.text words.entry.now ≡ name ∷ row →
         IsFault ErrorKind.ValueValidation result) value_rows }
 {
-    let program = program(alloc)?;
-    let matches = matches_of(alloc, program, words)?;
+    let matches = matches_of(alloc, words)?;
     match named(&matches) {
         Ok(command) => Ok(command),
         Err(misfit) => Err(usage(alloc, &matches, misfit)?),
@@ -211,7 +224,16 @@ pub fn command_line<'a, S: AsStr>(alloc: Global, words: &'a [S]) -> Result<Comma
 }
 
 /// What a parse of the words finds. An `Err` says in a sentence what is wrong with them.
-fn matches_of<'a, S: AsStr>(
+fn matches_of<'a, S: AsStr>(alloc: Global, words: &'a [S]) -> Result<ArgMatches<'a>, Error>
+    ensures matches { IfOk result (HasMatchesOf program_words (map S.text words.entry.now)) }
+    ensures kinds { FailsBy (fault_of program_words (map S.text words.entry.now)) result }
+{
+    let program = program(alloc)?;
+    matches_by(alloc, program, words)
+}
+
+/// The same by a program whose words they may be.
+fn matches_by<'a, S: AsStr>(
     alloc: Global,
     program: clap::Command<'a>,
     words: &'a [S],
@@ -222,10 +244,7 @@ fn matches_of<'a, S: AsStr>(
 {
     match program.try_get_matches_from(words) {
         Ok(matches) => Ok(matches),
-        Err(error) => {
-            let program = crate::words::program(alloc)?;
-            Err(plain(alloc, program, words, error)?)
-        }
+        Err(error) => Err(plain(alloc, words, error)?),
     }
 }
 
@@ -260,7 +279,7 @@ fn named<'a>(matches: &ArgMatches<'a>) -> Result<Command<'a>, Misfit<'a>>
     }
     match matches.subcommand_matches("pair") {
         Some(pair) => pair_of(pair),
-        None => Err(Misfit::NoCommand),
+        None => Err(Misfit::NO_COMMAND),
     }
 }
 
@@ -268,9 +287,12 @@ fn named<'a>(matches: &ArgMatches<'a>) -> Result<Command<'a>, Misfit<'a>>
 fn usage(alloc: Global, matches: &ArgMatches<'_>, misfit: Misfit<'_>) -> Result<Error, AllocError>
     ensures { IfOk result (λ error. kind_of error ≡ ErrorKind.ValueValidation) }
 {
-    let sentence = format!(in alloc; "{misfit}")?;
-    let mut command = words_named(alloc, matches.subcommand_name())?;
-    command.error(ErrorKind::ValueValidation, sentence.as_str())
+    error_of(
+        alloc,
+        matches.subcommand_name(),
+        misfit,
+        ErrorKind::ValueValidation,
+    )
 }
 
 /// What the words of the command of this name may be, or the program's if there is none.
@@ -279,13 +301,39 @@ pub(crate) fn words_named<'a>(
     name: Option<&str>,
 ) -> Result<clap::Command<'a>, AllocError> {
     match name {
-        Some("decode") => decode_words(alloc)?.bin_name("bgp decode"),
-        Some("judge") => judge_words(alloc)?.bin_name("bgp judge"),
-        Some("import") => import_words(alloc)?.bin_name("bgp import"),
-        Some("list") => list_words(alloc)?.bin_name("bgp list"),
-        Some("check") => check_words(alloc)?.bin_name("bgp check"),
-        Some("speak") => speak_words(alloc)?.bin_name("bgp speak"),
-        Some("pair") => pair_words(alloc)?.bin_name("bgp pair"),
+        Some(name) => reader_named(alloc, name),
+        None => program(alloc),
+    }
+}
+
+/// The same of a command that reads a file, or of another one.
+fn reader_named<'a>(alloc: Global, name: &str) -> Result<clap::Command<'a>, AllocError> {
+    match name {
+        "decode" => with_bin_name(decode_words(alloc), "bgp decode"),
+        "judge" => with_bin_name(judge_words(alloc), "bgp judge"),
+        "import" => with_bin_name(import_words(alloc), "bgp import"),
+        "list" => with_bin_name(list_words(alloc), "bgp list"),
+        "check" => with_bin_name(check_words(alloc), "bgp check"),
+        _ => speaker_named(alloc, name),
+    }
+}
+
+/// The same of a command that speaks, or of no command.
+fn speaker_named<'a>(alloc: Global, name: &str) -> Result<clap::Command<'a>, AllocError> {
+    match name {
+        "speak" => with_bin_name(speak_words(alloc), "bgp speak"),
+        "pair" => with_bin_name(pair_words(alloc), "bgp pair"),
         _ => program(alloc),
+    }
+}
+
+/// A command as its usage names it, if there was memory for it.
+fn with_bin_name<'a>(
+    command: Result<clap::Command<'a>, AllocError>,
+    name: &str,
+) -> Result<clap::Command<'a>, AllocError> {
+    match command {
+        Ok(command) => command.bin_name(name),
+        Err(error) => Err(error),
     }
 }

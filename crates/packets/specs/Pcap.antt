@@ -11,7 +11,8 @@
 -- +---------+----------+------+------+-------------------------
 --
 -- The magic number is a1b2c3d4 where fractions are microseconds and a1b23c4d where they are
--- nanoseconds, and tells the order of octets. A fraction is below a second. The link type is the low half of its number.
+-- nanoseconds, and tells the order of octets. A fraction is below a second. The link type is the low
+-- half of its number.
 use Rattle.std.specs.Prelude.{ℕ, ◌+◌, ◌/◌, ◌%◌, ◌==◌, not, Bool, List, length, take, drop}
 use Rattle.std.specs.Prelude.{nat_lt, Option, None, Some, if◌then◌else◌}
 use Rattle.byteorder.specs.Endian.{big_number}

@@ -3,6 +3,7 @@
 use bgp_json::OutputForm;
 use bgp_lines::LineForm;
 use bgp_prefix::{Address, RouteRefresh, Session, read_address};
+use bgp_tool::SessionOptions;
 use hex::FromHexError;
 use std::alloc::{AllocError, Global};
 use std::io;
@@ -14,12 +15,11 @@ pub(crate) struct Piece {
     pub(crate) text: String,
 }
 
-/// A capture of one session or a stream, the form in which it is printed, and the status that
-/// decoding it answers. Of a stream the session says how long a message may be.
+/// A capture of one session or a stream, how it is decoded, and the status that this answers. Of a
+/// stream the session says how long a message may be.
 #[derive(Drop)]
 pub(crate) struct Case {
-    pub(crate) session: Session,
-    pub(crate) form: OutputForm,
+    pub(crate) options: SessionOptions,
     pub(crate) pieces: Vec<Piece>,
     pub(crate) status: u8,
 }
@@ -29,13 +29,7 @@ pub(crate) struct Case {
 /// the capture; `>` and a line that is printed for it; `status` and a number.
 pub(crate) fn read_case(alloc: Global, block: &str) -> io::Result<Case> {
     let mut case = Case {
-        session: Session {
-            peer: Address::V4(0),
-            local: Address::V4(0),
-            refresh: RouteRefresh::NotOffered,
-            extended: false,
-        },
-        form: OutputForm::Text(LineForm::Plain),
+        options: options_of("")?,
         pieces: Vec::new(alloc),
         status: 0,
     };
@@ -50,9 +44,12 @@ fn take_line(alloc: Global, case: &mut Case, line: &str) -> io::Result<()> {
     let (word, rest) = line.split_once(' ').unwrap_or((line, ""));
     match word {
         "case" => Ok(()),
-        "args" => take_words(case, rest),
+        "args" => {
+            case.options = options_of(rest)?;
+            Ok(())
+        }
         "refresh" => {
-            case.session.refresh = RouteRefresh::Refused;
+            case.options.session.refresh = RouteRefresh::Refused;
             Ok(())
         }
         "octets" => push_piece(alloc, &mut case.pieces, rest),
@@ -65,35 +62,52 @@ fn take_line(alloc: Global, case: &mut Case, line: &str) -> io::Result<()> {
     }
 }
 
-/// Takes what the words of the command tell: the form of what is printed, how long a message may
-/// be, and the session of a capture.
-fn take_words(case: &mut Case, words: &str) -> io::Result<()> {
+/// What the words of `decode` tell: the form of what is printed, how long a message may be, and the
+/// session of a capture.
+pub(crate) fn options_of(words: &str) -> io::Result<SessionOptions> {
+    Ok(SessionOptions {
+        session: session_of(words)?,
+        form: form_of(words),
+    })
+}
+
+/// The form of what is printed.
+fn form_of(words: &str) -> OutputForm {
     let as2 = has_word(words, "--as2");
     if has_word(words, "--json") {
-        case.form = OutputForm::Json { as2 };
+        OutputForm::Json { as2 }
     } else if has_word(words, "--names") {
-        case.form = OutputForm::Text(LineForm::Names { as2 });
-    }
-    case.session.extended = has_word(words, "--extended");
-    if has_word(words, "--mrt") {
-        take_session(&mut case.session, words)
+        OutputForm::Text(LineForm::Names { as2 })
     } else {
-        Ok(())
+        OutputForm::Text(LineForm::Plain)
     }
 }
 
-/// Takes what the words of the command tell of a session.
-fn take_session(session: &mut Session, words: &str) -> io::Result<()> {
-    session.peer = address_behind(words, "--peer")?;
-    session.local = address_behind(words, "--local")?;
-    if has_word(words, "--skip-refresh") {
-        session.refresh = RouteRefresh::PassedOver;
+/// The session of a capture; of a stream only how long a message may be.
+fn session_of(words: &str) -> io::Result<Session> {
+    let extended = has_word(words, "--extended");
+    if !has_word(words, "--mrt") {
+        return Ok(Session {
+            peer: Address::V4(0),
+            local: Address::V4(0),
+            refresh: RouteRefresh::NotOffered,
+            extended,
+        });
     }
-    Ok(())
+    Ok(Session {
+        peer: address_behind(words, "--peer")?,
+        local: address_behind(words, "--local")?,
+        refresh: if has_word(words, "--skip-refresh") {
+            RouteRefresh::PassedOver
+        } else {
+            RouteRefresh::NotOffered
+        },
+        extended,
+    })
 }
 
 /// Whether a word is among those of the command.
-fn has_word(words: &str, wanted: &str) -> bool {
+pub(crate) fn has_word(words: &str, wanted: &str) -> bool {
     words.split(' ').any(|word| word == wanted)
 }
 

@@ -6,7 +6,7 @@ use bgp_compact::CompactTracker;
 use bgp_judge::{PlainTracker, Tracker};
 use bgp_open::Config;
 use bgp_tool::judge_capture;
-use bgp_words::{Command, command_line};
+use bgp_vectors::config_of;
 use mrt::{MemSink, MemSource, SinkUpset, SourceUpset};
 use rand_pcg::Pcg32;
 use std::alloc::{AllocError, Global};
@@ -21,21 +21,6 @@ pub(crate) struct Judged {
     pub(crate) capture: Vec<u8>,
     pub(crate) text: String,
     pub(crate) status: u8,
-}
-
-/// The configuration that the words of a command line name, after the program's own and before a
-/// file.
-fn config_of(alloc: Global, words: &str) -> io::Result<Config> {
-    let mut line = Vec::new(alloc);
-    line.push("bgp")?;
-    for word in words.split(' ') {
-        line.push(word)?;
-    }
-    line.push("FILE")?;
-    match command_line(alloc, line.as_slice()) {
-        Ok(Command::Judge { config, .. }) => Ok(config),
-        _ => Err(malformed()),
-    }
 }
 
 /// Appends a line to what is printed.
@@ -58,7 +43,7 @@ fn take_line<R: Files + AllocGlobal>(rt: &R, parts: &mut Parts, line: &str) -> i
     let (word, rest) = line.split_once(' ').unwrap_or((line, ""));
     match word {
         "case" => {}
-        "args" => parts.config = Some(config_of(rt.alloc(), rest)?),
+        "config" => parts.config = config_of(rt.alloc(), rest)?,
         "octets" => {
             let octets = octets_of(rt.alloc(), rest)?;
             parts.capture.extend_from_slice(octets.as_slice())?;
@@ -71,7 +56,7 @@ fn take_line<R: Files + AllocGlobal>(rt: &R, parts: &mut Parts, line: &str) -> i
     Ok(())
 }
 
-/// Reads a block of lines: `args` and the words of the command; `octets` and a piece of the
+/// Reads a block of lines: `config` and the configuration; `octets` and a piece of the
 /// capture, or `capture` and the name of a file; `status` and a number; `>` and a line that is
 /// printed. A line of `case` says what the block teaches.
 pub(crate) fn read_judged<R: Files + AllocGlobal>(rt: &R, block: &str) -> io::Result<Judged> {

@@ -1,7 +1,7 @@
 //! Streams of one direction, and the lines that are printed of them.
 
-use crate::case::{Case, Piece, malformed, read_case};
-use bgp_tool::{StreamOptions, decode_raw, text_and_status};
+use crate::case::{Piece, malformed, read_case};
+use bgp_tool::{SessionOptions, StreamOptions, decode_raw, text_and_status};
 use bgp_wire::Limit;
 use mrt::{MemSink, MemSource};
 use std::alloc::{AllocError, Global};
@@ -19,14 +19,14 @@ pub(crate) fn is_stream(alloc: Global, block: &str) -> io::Result<bool> {
     let [stream] = case.pieces.as_slice() else {
         return Err(malformed());
     };
-    Ok(are_lines(alloc, options_of(&case), stream, case.status)?)
+    Ok(are_lines(alloc, stream_options(&case.options), stream, case.status)?)
 }
 
-/// How the stream of a case is decoded.
-fn options_of(case: &Case) -> StreamOptions {
+/// The same options for a stream.
+pub(crate) fn stream_options(options: &SessionOptions) -> StreamOptions {
     StreamOptions {
-        limit: Limit::with_extended(case.session.extended),
-        form: case.form,
+        limit: Limit::with_extended(options.session.extended),
+        form: options.form,
     }
 }
 

@@ -9,12 +9,11 @@
 //! the number of the fault where it is none (`malformed`).
 
 use crate::case::{malformed, octets_of};
-use crate::updates::families_of;
 use bgp_open::{
-    Config, ConfigParts, Families, Link, OpenSubcodes, RouteForm, RouteOffer, is_own_open,
-    negotiate, open_faults, read_open, write_own_open,
+    Config, ConfigParts, Families, Link, OpenSubcodes, RouteForm, is_own_open, negotiate,
+    open_faults, read_open, write_own_open,
 };
-use bgp_prefix::{Address, RouteRefresh, Session, read_address};
+use bgp_vectors::parts_of;
 use std::alloc::{AllocError, Global};
 use std::io;
 
@@ -23,9 +22,13 @@ pub(crate) fn is_open(alloc: Global, block: &str) -> io::Result<bool> {
     let (_, rest) = first_line(block);
     let (config, rest) = first_line(rest);
     let (octets, told) = first_line(rest);
-    let words: Vec<&str> = config.split(' ').collect(alloc)?;
-    let (Some(parts), Some(digits)) = (parts_of(words.as_slice()), octets.strip_prefix("octets "))
-    else {
+    let (Some(config), Some(digits)) = (
+        config.strip_prefix("config "),
+        octets.strip_prefix("octets "),
+    ) else {
+        return Err(malformed());
+    };
+    let Some(parts) = parts_of(alloc, config)? else {
         return Err(malformed());
     };
     let octets = octets_of(alloc, digits)?;
@@ -35,97 +38,6 @@ pub(crate) fn is_open(alloc: Global, block: &str) -> io::Result<bool> {
 /// A text's first line, and the others.
 fn first_line(text: &str) -> (&str, &str) {
     text.split_once('\n').unwrap_or((text, ""))
-}
-
-/// The session of these words: both addresses, `refresh` if a ROUTE-REFRESH may come, and
-/// `extended` if longer messages are offered.
-fn session_of(words: &[&str]) -> Option<Session> {
-    let [local, peer, refresh, limit, ..] = words else {
-        return None;
-    };
-    Some(Session {
-        peer: read_address(peer)?,
-        local: read_address(local)?,
-        refresh: RouteRefresh::with_offer(*refresh == "refresh"),
-        extended: *limit == "extended",
-    })
-}
-
-/// The offer that a word of a list adds to another one.
-fn offer_with(offer: RouteOffer, word: &str) -> Option<RouteOffer> {
-    let RouteOffer {
-        mut sends,
-        mut receives,
-        mut next_hops,
-    } = offer;
-    match word {
-        "send-v4" => sends.v4 = true,
-        "send-v6" => sends.v6 = true,
-        "receive-v4" => receives.v4 = true,
-        "receive-v6" => receives.v6 = true,
-        "next-hops" => next_hops = true,
-        _ => return None,
-    }
-    Some(RouteOffer {
-        sends,
-        receives,
-        next_hops,
-    })
-}
-
-/// The offer of a list of words with commas, or of a dash for nothing; and nothing where there is no
-/// list.
-pub(crate) fn offer_of(list: Option<&str>) -> Option<RouteOffer> {
-    let mut offer = RouteOffer::NOTHING;
-    match list {
-        None | Some("-") => {}
-        Some(list) => {
-            for word in list.split(',') {
-                offer = offer_with(offer, word)?;
-            }
-        }
-    }
-    Some(offer)
-}
-
-/// The identifier that is written as an address.
-fn id_of(word: &str) -> Option<u32> {
-    match read_address(word)? {
-        Address::V4(id) => Some(id),
-        Address::V6(_) => None,
-    }
-}
-
-/// What the words of a line of `config` are: the AS numbers, the identifier, the Hold Time, the
-/// families, the octets of an AS number, the first HoldTimer, the session, and a list of what is
-/// offered about routes, if anything is.
-fn parts_of(words: &[&str]) -> Option<ConfigParts> {
-    let [
-        _,
-        local_as,
-        peer_as,
-        id,
-        hold,
-        families,
-        width,
-        large_hold,
-        session @ ..,
-    ] = words
-    else {
-        return None;
-    };
-    Some(ConfigParts {
-        local_as: local_as.parse::<u32>().ok()?,
-        peer_as: peer_as.parse::<u32>().ok()?,
-        local_id: id_of(id)?,
-        hold: hold.parse::<u16>().ok()?,
-        families: families_of(families),
-        as4: *width == "4",
-        delay_open: false,
-        large_hold: large_hold.parse::<u32>().ok()?,
-        session: session_of(session)?,
-        offers: offer_of(session.get(4).copied())?,
-    })
 }
 
 /// Whether each of these lines is so of these parts and an OPEN.

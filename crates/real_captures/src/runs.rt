@@ -1,7 +1,7 @@
 //! A case is decoded from sources that give it whole or octet by octet, fail or end early.
 
 use crate::case::{Case, read_case};
-use bgp_tool::{SessionOptions, decode_capture};
+use bgp_tool::decode_capture;
 use mrt::{MemSink, MemSource, Reader, SourceUpset};
 use std::alloc::{AllocError, Global};
 use std::io;
@@ -46,11 +46,7 @@ fn decode(
     }
     let mut sink = MemSink::new(alloc);
     let mut reader = Reader::new(alloc);
-    let options = SessionOptions {
-        session: case.session,
-        form: case.form,
-    };
-    let status = decode_capture(alloc, &mut reader, &options, &mut source, &mut sink);
+    let status = decode_capture(alloc, &mut reader, &case.options, &mut source, &mut sink);
     let given = source.given();
     Ok(Answer {
         text: sink.into_octets(),

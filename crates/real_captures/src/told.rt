@@ -1,27 +1,29 @@
 //! Commands that read what a reader gives: what they print, the exit status, and what they tell on
 //! standard error, told by blocks of lines.
 //!
-//! A line of `case` says what a block teaches; `args` has the words of the command without a file,
-//! `file` the file's name, and `octets` what is in it. Where `reading` is there, the reader fails
+//! A line of `case` says what a block teaches. `args` has the words of `decode` without a file; or
+//! `config` the configuration by which a file is judged, with `explain` if the reason is wanted.
+//! `file` has the file's name, and `octets` what is in it. Where `reading` is there, the reader fails
 //! behind the octets by the error that it names, and where `opening` is, the file can't be opened;
 //! `writing` says for how many octets the writer has room, and by which error it then fails.
 //! `status` is the exit status, `>` a line that is printed, of which the writer takes what it has
 //! room for, and `!` one that is told. `skipped` says how many records were skipped: of other
 //! kinds, of other sessions, and ROUTE-REFRESH messages that were received and sent.
 
-use crate::case::{malformed, octets_of};
+use crate::case::{has_word, malformed, octets_of, options_of};
 use crate::devices::{Given, Paper};
+use crate::lines::stream_options;
 use bgp_compact::CompactTracker;
 use bgp_explain::{JudgedCapture, LeftOut, Report, judge_opened};
 use bgp_judge::{PlainTracker, Tracker};
+use bgp_open::Config;
 use bgp_tool::{
     Note, SessionOptions, StreamOptions, decode_opened, decode_opened_capture, passed_over,
 };
-use bgp_wire::Limit;
-use bgp_words::{Command, command_line};
+use bgp_vectors::config_of;
 use mrt::{FromWrite, SkippedRecords};
 use std::alloc::{AllocError, Global};
-use std::fmt;
+use std::fmt::{Display, Write};
 use std::io::{self, ErrorKind};
 
 /// The errors of devices, by their names.
@@ -34,23 +36,45 @@ static ERRORS: [(&str, ErrorKind); 6] = [
     ("TimedOut", ErrorKind::TimedOut),
 ];
 
+/// A command over a file.
+#[derive(Clone, Copy)]
+enum Command {
+    DecodeStream(StreamOptions),
+    DecodeCapture(SessionOptions),
+    Judge { config: Config, report: Report },
+}
+
 /// Whether a command does what its block says: with the plain tracker and with the compact one, and
 /// from a reader that gives all at once and from one that gives octet by octet.
 pub(crate) fn is_told(alloc: Global, block: &str) -> io::Result<bool> {
-    let mut words = Vec::new(alloc);
-    words.push("bgp")?;
-    for word in line_of(block, "args ").unwrap_or("").split(' ') {
-        words.push(word)?;
+    let command = command_of(alloc, block)?;
+    is_done(alloc, &command, block)
+}
+
+/// The command of a block.
+fn command_of(alloc: Global, block: &str) -> io::Result<Command> {
+    if let Some(line) = line_of(block, "config ") {
+        let report = if block.contains("\nexplain\n") {
+            Report::WithReason
+        } else {
+            Report::VerdictAlone
+        };
+        let config = config_of(alloc, line)?.ok_or_else(malformed)?;
+        return Ok(Command::Judge { config, report });
     }
-    words.push("FILE")?;
-    match command_line(alloc, words.as_slice()) {
-        Ok(command) => is_done(alloc, &command, block),
-        Err(_) => Err(malformed()),
+    let Some(words) = line_of(block, "args ") else {
+        return Err(malformed());
+    };
+    let options = options_of(words)?;
+    if has_word(words, "--mrt") {
+        Ok(Command::DecodeCapture(options))
+    } else {
+        Ok(Command::DecodeStream(stream_options(&options)))
     }
 }
 
 /// Whether this command does so.
-fn is_done(alloc: Global, command: &Command<'_>, block: &str) -> io::Result<bool> {
+fn is_done(alloc: Global, command: &Command, block: &str) -> io::Result<bool> {
     let octets = octets_of(alloc, line_of(block, "octets ").unwrap_or("-"))?;
     Ok(
         is_done_by::<PlainTracker<Global>>(alloc, command, block, octets.as_slice())?
@@ -61,7 +85,7 @@ fn is_done(alloc: Global, command: &Command<'_>, block: &str) -> io::Result<bool
 /// Whether it does so with this tracker.
 fn is_done_by<T: Tracker<Global>>(
     alloc: Global,
-    command: &Command<'_>,
+    command: &Command,
     block: &str,
     octets: &[u8],
 ) -> Result<bool, AllocError> {
@@ -74,100 +98,92 @@ fn is_done_by<T: Tracker<Global>>(
 /// Whether it does so where the reader gives at most so many octets at a time.
 fn is_done_in_pieces<T: Tracker<Global>>(
     alloc: Global,
-    command: &Command<'_>,
+    command: &Command,
     block: &str,
     octets: &[u8],
     most: usize,
 ) -> Result<bool, AllocError> {
     let opened = opened_of(block, octets, most);
     let paper = Paper::new(alloc, room_of(block));
-    match ended::<T>(alloc, command, file_of(block), opened, paper) {
-        Some((judged, written)) => {
-            Ok(is_outcome(alloc, block, &judged)? && is_text(alloc, block, written.as_slice())?)
-        }
-        None => Ok(false),
-    }
+    let (judged, written) = ended::<T>(alloc, command, file_of(block), opened, paper);
+    Ok(is_outcome(alloc, block, &judged)? && is_text(alloc, block, written.as_slice())?)
 }
 
-/// How a command ends, and what it prints: `None` where it is one that reads no such file.
+/// How a command ends, and what it prints.
 fn ended<'a, T: Tracker<Global>>(
     alloc: Global,
-    command: &Command<'_>,
+    command: &Command,
     file: &'a str,
     opened: io::Result<Given<'_>>,
     paper: Paper,
-) -> Option<(JudgedCapture<'a>, Vec<u8>)> {
+) -> (JudgedCapture<'a>, Vec<u8>) {
     let mut sink = FromWrite::new(paper);
     let confederation = false;
     let left_out = LeftOut::nothing();
     let judged = match command {
-        Command::Decode { form, extended, .. } => {
-            let options = StreamOptions {
-                limit: Limit::with_extended(*extended),
-                form: *form,
-            };
-            let outcome = decode_opened(options, alloc, file, opened, &mut sink);
+        Command::DecodeStream(options) => {
+            let outcome = decode_opened(*options, alloc, file, opened, &mut sink);
             JudgedCapture {
                 outcome,
                 confederation,
                 left_out,
             }
         }
-        Command::Capture { form, session, .. } => {
-            let options = SessionOptions {
-                session: *session,
-                form: *form,
-            };
-            let outcome = decode_opened_capture(alloc, &options, file, opened, &mut sink);
+        Command::DecodeCapture(options) => {
+            let outcome = decode_opened_capture(alloc, options, file, opened, &mut sink);
             JudgedCapture {
                 outcome,
                 confederation,
                 left_out,
             }
         }
-        Command::Judge {
-            config,
-            explain,
-            ..
-        } => {
-            let report = if *explain {
-                Report::WithReason
-            } else {
-                Report::VerdictAlone
-            };
-            judge_opened::<Global, T, _, _>(alloc, config, report, file, opened, &mut sink)
+        Command::Judge { config, report } => {
+            judge_opened::<Global, T, _, _>(alloc, config, *report, file, opened, &mut sink)
         }
-        _ => return None,
     };
-    Some((judged, sink.into_inner().written))
+    (judged, sink.into_inner().written)
 }
 
 /// Whether a command ends with the status, the skipped records and the sentences of its block.
 fn is_outcome(alloc: Global, block: &str, judged: &JudgedCapture<'_>) -> Result<bool, AllocError> {
-    let JudgedCapture {
-        outcome,
-        confederation,
-        left_out,
-    } = judged;
+    let outcome = &judged.outcome;
     let mut told = String::new(alloc);
-    if let Some(skipped) = outcome.skipped {
-        let (received, sent) = passed_over(&skipped);
-        told.push_str(told_of(alloc, received)?.as_str())?;
-        told.push_str(told_of(alloc, sent)?.as_str())?;
-    }
-    if *confederation {
-        told.push_str(told_of(alloc, Some(Note::Confederation))?.as_str())?;
-    }
-    if let Some(offer) = left_out.without {
-        told.push_str(told_of(alloc, Some(Note::Without { offer }))?.as_str())?;
-    }
-    told.push_str(told_of(alloc, outcome.note)?.as_str())?;
+    put_told(&mut told, judged)?;
     let status = line_of(block, "status ").and_then(|status| status.parse::<u8>().ok());
     Ok(
         status == Some(outcome.status)
             && are_skipped(alloc, block, outcome.skipped)?
             && are_lines(alloc, block, "! ", told.as_str())?,
     )
+}
+
+/// Puts the sentences that are told of a command.
+fn put_told(told: &mut String, judged: &JudgedCapture<'_>) -> Result<(), AllocError> {
+    let JudgedCapture {
+        outcome,
+        confederation,
+        left_out,
+    } = judged;
+    if let Some(skipped) = outcome.skipped {
+        let (received, sent) = passed_over(&skipped);
+        put_sentence(told, received)?;
+        put_sentence(told, sent)?;
+    }
+    if *confederation {
+        put_sentence(told, Some(Note::Confederation))?;
+    }
+    if let Some(offer) = left_out.without {
+        put_sentence(told, Some(Note::Without { offer }))?;
+    }
+    put_sentence(told, outcome.note)
+}
+
+/// Puts a sentence and the end of its line: nothing if there is none.
+fn put_sentence<T: Display + Drop>(told: &mut String, note: Option<T>) -> Result<(), AllocError> {
+    match note {
+        Some(note) => write!(told, "{note}\n"),
+        None => Ok(()),
+    }
 }
 
 /// Whether so many records were skipped, if the block says how many.
@@ -184,14 +200,6 @@ fn are_skipped(
             Ok(text.as_str() == line)
         }
         (line, _) => Ok(line.is_none()),
-    }
-}
-
-/// A sentence, and the end of its line: nothing where there is none.
-fn told_of<T: fmt::Display + Drop>(alloc: Global, note: Option<T>) -> Result<String, AllocError> {
-    match note {
-        Some(note) => format!(in alloc; "{note}\n"),
-        None => Ok(String::new(alloc)),
     }
 }
 

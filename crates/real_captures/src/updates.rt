@@ -8,14 +8,13 @@
 //! routes, two lists stand behind the link: what the own OPEN offers, and what the peer's does.
 
 use crate::case::{malformed, octets_of};
-use crate::opens::offer_of;
 use bgp_open::{
     Config, ConfigParts, Families, Link, RouteOffer, negotiate, read_open, write_own_open,
 };
 use bgp_path::Path;
 use bgp_text::write_route;
 use bgp_update::{Changes, Destination, Outcomes, Subcodes, is_clean, read_update};
-use bgp_vectors::SPEAKER_A;
+use bgp_vectors::{SPEAKER_A, families_of, offer_of};
 use mrt::MemSink;
 use std::alloc::{AllocError, Global};
 use std::io;
@@ -99,14 +98,6 @@ fn configs_of(line: &str) -> Option<(Config, Config)> {
     let config = config_of(as4, is_internal, used, offer_of(words.next())?)?;
     let peers = peers_config_of(used, offer_of(words.next())?)?;
     Some((config, peers))
-}
-
-/// The families that are named.
-pub(crate) fn families_of(names: &str) -> Families {
-    Families {
-        v4: names == "v4" || names == "v4,v6",
-        v6: names == "v6" || names == "v4,v6",
-    }
 }
 
 /// A configuration by which these families are used.

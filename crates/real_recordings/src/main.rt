@@ -25,6 +25,8 @@
 //! what is told. `announced.txt` has prefixes that `bgp speak` is to announce, and what is told of
 //! each.
 //!
+//! So are the examples of `bgp judge` in `judge`, from the words of the command line on.
+//!
 //! Then recordings of real sessions between five daemons, in `sessions`, are listed, judged from
 //! both ends, and explained as the captures that are made of them, but for the packets. Last some
 //! command lines are run over real files, some of them once more with too little memory, and
@@ -38,6 +40,7 @@
 mod announced;
 mod answer;
 mod case;
+mod examples;
 mod explained;
 mod file;
 mod lacking;
@@ -50,6 +53,7 @@ mod table;
 mod told;
 mod words;
 
+use examples::compare_examples;
 use lacking::run_lacking;
 use runs::run_all;
 use session::compare_sessions;
@@ -78,9 +82,10 @@ fn go_through_all<R: Files + Net + Clock + Input + Print + Eprint + AllocGlobal,
     errors: &E,
 ) -> io::Result<bool> {
     let tables = compare_tables(rt)?;
+    let examples = compare_examples(rt)?;
     let sessions = compare_sessions(rt)?;
     run_all(rt, errors)?;
     run_lacking(rt)?;
     speak_all(rt, errors)?;
-    Ok(tables && sessions)
+    Ok(tables && examples && sessions)
 }

@@ -63,20 +63,33 @@ fn compare_session<R: Files + Print + AllocGlobal>(
     }
 }
 
-/// Reads a file of a session, or of an end of one.
-fn read<R: Files + AllocGlobal>(rt: &R, name: &str, suffix: &str) -> io::Result<Vec<u8>> {
+/// Reads a file of a session, of an end of one, or of an example.
+pub(crate) fn read<R: Files + AllocGlobal>(
+    rt: &R,
+    name: &str,
+    suffix: &str,
+) -> io::Result<Vec<u8>> {
     let path = format!(in rt.alloc(); "{name}.{suffix}")?;
     fs::read(rt, path.as_str())
 }
 
 /// The same of a text.
-fn read_text<R: Files + AllocGlobal>(rt: &R, name: &str, suffix: &str) -> io::Result<String> {
+pub(crate) fn read_text<R: Files + AllocGlobal>(
+    rt: &R,
+    name: &str,
+    suffix: &str,
+) -> io::Result<String> {
     let path = format!(in rt.alloc(); "{name}.{suffix}")?;
     fs::read_to_string(rt, path.as_str())
 }
 
 /// What a status, the lines of standard error and what is printed are as an answer.
-fn answer_of(alloc: Global, status: u8, notes: &str, printed: &[u8]) -> io::Result<String> {
+pub(crate) fn answer_of(
+    alloc: Global,
+    status: u8,
+    notes: &str,
+    printed: &[u8],
+) -> io::Result<String> {
     let mut told = Told::with_status(alloc, status);
     for note in notes.lines() {
         told.put_note(Some(note.strip_prefix("bgp: ").unwrap_or(note)));

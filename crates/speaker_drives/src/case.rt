@@ -1,10 +1,8 @@
-//! A case, told by a block of lines: `args` and the words of `bgp judge`, which name the settings;
-//! `next-hops` and two addresses; what is handed in; and what comes of it, with `capture` and the
-//! records, and `>` and a route.
+//! A case, told by a block of lines: `config` and the settings; `next-hops` and two addresses; what
+//! is handed in; and what comes of it, with `capture` and the records, and `>` and a route.
 
 use bgp_open::Config;
 use bgp_prefix::{Address, read_address};
-use bgp_words::{Command, command_line};
 use hex::FromHexError;
 use std::alloc::{AllocError, Global};
 use std::io;
@@ -27,19 +25,10 @@ pub(crate) fn line_of<'a>(block: &'a str, word: &str) -> Option<&'a str> {
 
 /// The settings.
 pub(crate) fn config_of(alloc: Global, block: &str) -> io::Result<Config> {
-    let Some(line) = line_of(block, "args") else {
+    let Some(line) = line_of(block, "config") else {
         return Err(malformed());
     };
-    let mut words = Vec::new(alloc);
-    words.push("bgp")?;
-    for word in line.split(' ') {
-        words.push(word)?;
-    }
-    words.push("-")?;
-    match command_line(alloc, words.as_slice()) {
-        Ok(Command::Judge { config, .. }) => Ok(config),
-        _ => Err(malformed()),
-    }
+    bgp_vectors::config_of(alloc, line)?.ok_or_else(malformed)
 }
 
 /// The next hops.

@@ -131,12 +131,20 @@ fn run_of(alloc: Global, config: &Config, block: &str, is_cut: bool) -> io::Resu
 /// Whether that is what a drive comes to.
 fn is_run(alloc: Global, config: &Config, run: Run, block: &str) -> io::Result<bool> {
     let capture = capture_of(alloc, config, run.records.as_slice())?;
-    let is_shown = is_line(alloc, block, "sent", run.sent.as_slice())?
-        && is_line(alloc, block, "capture", capture.as_slice())?;
+    let capture = capture.as_slice();
+    let is_shown = is_shown(alloc, &run, capture, block)?;
     let Run { fsm, rib, .. } = run;
-    let is_right = is_shown
-        && line_of(block, "state").and_then(|word| word.parse::<u16>().ok()) == Some(fsm.number());
-    Ok(is_right && is_end(alloc, config, capture.as_slice(), &End { fsm, rib }, block)?)
+    Ok(is_shown && is_end(alloc, config, capture, &End { fsm, rib }, block)?)
+}
+
+/// Whether that is what a drive sends and shows, and the state that it comes to.
+fn is_shown(alloc: Global, run: &Run, capture: &[u8], block: &str) -> io::Result<bool> {
+    let state = line_of(block, "state").and_then(|word| word.parse::<u16>().ok());
+    Ok(
+        is_line(alloc, block, "sent", run.sent.as_slice())?
+            && is_line(alloc, block, "capture", capture)?
+            && state == Some(run.fsm.number()),
+    )
 }
 
 /// Whether a drive ends with these routes, and its capture is judged so.

@@ -177,12 +177,19 @@ fn is_told(
     let Ok(report) = told else {
         return Ok(false);
     };
+    Ok(
+        are_taken(alloc, block, &wire, sink.octets())?
+            && is_report(alloc, config, block, sink.octets(), report)?,
+    )
+}
+
+/// Whether a wire took what its block says, and failed so often, and this is the capture.
+fn are_taken(alloc: Global, block: &str, wire: &MemWire<'_>, capture: &[u8]) -> io::Result<bool> {
     let failures = number_of(block, "failures").unwrap_or(wire.failures());
     Ok(
         failures == wire.failures()
             && is_line(alloc, block, "taken", wire.taken())?
-            && is_line(alloc, block, "capture", sink.octets())?
-            && is_report(alloc, config, block, sink.octets(), report)?,
+            && is_line(alloc, block, "capture", capture)?,
     )
 }
 

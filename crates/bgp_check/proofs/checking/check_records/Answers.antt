@@ -10,7 +10,7 @@ pub returns-else-tells_other-clause-told : goal.returns-else-tells_other-clause-
 returns-else-tells_other-clause-told g c =
     let records = map shown_of c.args.records.now in
     let another = c.args.widest.now.another in
-    let first = verdict_value c.in_ok-first.first in
+    let first = verdict_value c.in_ok-first.first.verdict in
     subst (λ (wanting : Option Config). IsToldBy wanting another records true first) (sym c.in-Some.is)
-    (first_is_told c.in-Some.wanting another records first (verdict_value c.in_ok-second.second) c.in_ok-first.ensures.verdict c.in_ok-second.ensures.verdict
+    (first_is_told c.in-Some.wanting another records first (verdict_value c.in_ok-second.second.verdict) c.in_ok-first.ensures.verdict c.in_ok-second.ensures.verdict
     (sym c.tells_other.ensures ∙ c.if-tells_other.false))

@@ -4,7 +4,7 @@ use Rattle.bgp_prefix.specs.Shown.{ShownRecord}
 use Rattle.mrt.specs.Reader.{shown_of}
 use Rattle.bgp_judge.specs.Ends.{end_value}
 use Rattle.bgp_judge.specs.Verdict.{HasVerdict, VerdictValue, verdict_value}
-use Rattle.bgp_check_text.specs.LastTold.{IsLastTold}
+use Rattle.bgp_watch.specs.LastTold.{IsLastTold}
 use Rattle.bgp_check_text.proofs.Fronts.{at_first, found, is_less, none_at_all, none_without_yes, shorter}
 use Rattle.bgp_check_text.proofs.reached.ends_before.Goals as goal
 

@@ -1,4 +1,4 @@
-use Rattle.std.proofs.Common.{◌≡◌, ◌∙◌, ℕ, List, Option, None, Some, ap, inl, inr, map, subst, sym}
+use Rattle.std.proofs.Common.{◌≡◌, ◌∙◌, ℕ, List, Option, None, Some, ap, inl, inr, map, option_map, subst, sym}
 use Rattle.bgp_prefix.specs.Shown.{ShownRecord}
 use Rattle.mrt.specs.Reader.{shown_of}
 use Rattle.bgp_recording.specs.Captured.{records_of}
@@ -6,6 +6,8 @@ use Rattle.bgp_recording.specs.declared.entry.Entry.{Entry}
 use Rattle.bgp_judge.specs.Verdict.{Unfinished}
 use Rattle.bgp_explain.specs.Places.{shown_places}
 use Rattle.bgp_check.specs.Answered.{AnswerValue, IsAnswerTo, JudgedAs, answer_value}
+use Rattle.bgp_check.specs.WatchedEnd.{IsWatchedFor}
+use Rattle.bgp_watch.specs.Front.{front_value}
 use Rattle.bgp_check_text.specs.Reached.{reached_value}
 use Rattle.bgp_check_text.specs.declared.options.JudgeOptions.{JudgeOptions}
 use Rattle.bgp_check_tool.specs.declared.late.Late.{Late}
@@ -28,12 +30,12 @@ returns-in-Nothing g c = λ clocked made.
     let entries = recording.entries.items in
     let records = records_of entries in
     let peer = peer_end viewed.session viewed.connection in
-    let answer = answer_value c.in_ok-answer.answer in
+    let answer = answer_value c.in_ok-watched.watched.answer in
     let beside = c.in_ok-beside-in-Nothing.ensures in
     let told = told_value c.told_of.result in
     let is = c.told_of.ensures in
     told_so options viewed.asked viewed.end viewed.session viewed.connection framings entries recording.received recording.sent told answer answer is.answer
-    (subst (λ (rs : List ShownRecord). IsAnswerTo viewed.session rs answer) (ap (map shown_of) c.as_slice-records.ensures.value ∙ c.requires.records) c.in_ok-answer.ensures.answer)
+    (subst (λ (rs : List ShownRecord). IsAnswerTo viewed.session rs answer) (ap (map shown_of) c.as_slice-records.ensures.value ∙ c.requires.records) c.in_ok-watched.ensures.answer)
     (inl (record {
       is_order = is.beside.0 ∙ beside.order;
       made = made;
@@ -61,12 +63,12 @@ returns-in-NoOrder g c = λ clocked made.
     let entries = recording.entries.items in
     let records = records_of entries in
     let peer = peer_end viewed.session viewed.connection in
-    let answer = answer_value c.in_ok-answer.answer in
+    let answer = answer_value c.in_ok-watched.watched.answer in
     let beside = c.in_ok-beside-in-NoOrder.ensures in
     let told = told_value c.told_of-in-NoOrder.result in
     let is = c.told_of-in-NoOrder.ensures in
     told_so options viewed.asked viewed.end viewed.session viewed.connection framings entries recording.received recording.sent told answer answer is.answer
-    (subst (λ (rs : List ShownRecord). IsAnswerTo viewed.session rs answer) (ap (map shown_of) c.as_slice-records.ensures.value ∙ c.requires.records) c.in_ok-answer.ensures.answer)
+    (subst (λ (rs : List ShownRecord). IsAnswerTo viewed.session rs answer) (ap (map shown_of) c.as_slice-records.ensures.value ∙ c.requires.records) c.in_ok-watched.ensures.answer)
     (inl (record {
       is_order = is.beside.0 ∙ beside.order;
       made = made;
@@ -94,7 +96,7 @@ returns-in-Unfinished g c = λ clocked made.
     let entries = recording.entries.items in
     let records = records_of entries in
     let peer = peer_end viewed.session viewed.connection in
-    let answer = answer_value c.in_ok-answer.answer in
+    let answer = answer_value c.in_ok-watched.watched.answer in
     let its = c.in-Unfinished.its in
     let found = c.in-Unfinished.ensures in
     let beside = c.of_others-beside.ensures in
@@ -105,7 +107,7 @@ returns-in-Unfinished g c = λ clocked made.
     let nothing : told.found ≡ None = is.beside.1 ∙ beside.found in
     told_so options viewed.asked viewed.end viewed.session viewed.connection framings entries recording.received recording.sent told answer (answer_value c.unfinished-answer.result)
     is.answer
-    (subst (λ (rs : List ShownRecord). IsAnswerTo viewed.session rs answer) (ap (map shown_of) c.as_slice-records.ensures.value ∙ c.requires.records) c.in_ok-answer.ensures.answer)
+    (subst (λ (rs : List ShownRecord). IsAnswerTo viewed.session rs answer) (ap (map shown_of) c.as_slice-records.ensures.value ∙ c.requires.records) c.in_ok-watched.ensures.answer)
     (inr (inr (record {
       is_order = is.beside.0 ∙ beside.order;
       made = made;
@@ -133,7 +135,7 @@ returns g c = λ clocked made.
     let options = viewed.options in
     let framings = c.args.made.now.framings in
     let recording = c.args.made.now.recording in
-    let first = answer_value c.in_ok-answer.answer in
+    let first = answer_value c.in_ok-watched.watched.answer in
     let other = c.in-Another.another.recording in
     let entries = other.entries.items in
     let records = records_of entries in
@@ -156,7 +158,7 @@ returns g c = λ clocked made.
       made_sent = recording.sent;
       made = made;
       made_answer = first;
-      answers_made = subst (λ (rs : List ShownRecord). IsAnswerTo viewed.session rs first) (ap (map shown_of) c.as_slice-records.ensures.value ∙ c.requires.records) c.in_ok-answer.ensures.answer;
+      answers_made = subst (λ (rs : List ShownRecord). IsAnswerTo viewed.session rs first) (ap (map shown_of) c.as_slice-records.ensures.value ∙ c.requires.records) c.in_ok-watched.ensures.answer;
       is_no_yes = sought.0;
       not_in_made = is.beside.2 ∙ beside.in_made;
       no_judge = is.beside.5 ∙ beside.judge;
@@ -168,3 +170,13 @@ returns g c = λ clocked made.
     (yes_not_late viewed.session options.within framings viewed.connection answer told.late sought.3 (is.beside.4 ∙ beside.late)) (reached_so records answer told.reached (reached_value c.in_ok-reached-in-Another.reached) is.reached c.in_ok-reached-in-Another.ensures)
     (reason_so viewed.session framings.sent.limit peer records (second_at entries 0) (shown_places entries) answer told.deed _ told.reason _ is.reason.0 is.reason.1 c.in_ok-reason-in-Another.ensures)
     is.unshown.0 is.unshown.1
+
+pub reached_on-reached-in-Nothing-requires-clause-watched : goal.reached_on-reached-in-Nothing-requires-clause-watched
+reached_on-reached-in-Nothing-requires-clause-watched g c =
+    subst (λ (rs : List ShownRecord). IsWatchedFor rs (answer_value c.in_ok-watched.watched.answer) (option_map front_value c.in_ok-watched.watched.before))
+    (ap (map shown_of) c.as_slice-records.ensures.value ∙ c.requires.records) c.in_ok-watched.ensures.before
+
+pub reached_on-reached-in-NoOrder-requires-clause-watched : goal.reached_on-reached-in-NoOrder-requires-clause-watched
+reached_on-reached-in-NoOrder-requires-clause-watched g c =
+    subst (λ (rs : List ShownRecord). IsWatchedFor rs (answer_value c.in_ok-watched.watched.answer) (option_map front_value c.in_ok-watched.watched.before))
+    (ap (map shown_of) c.as_slice-records.ensures.value ∙ c.requires.records) c.in_ok-watched.ensures.before

@@ -6,4 +6,4 @@ pub returns : goal.returns
 unfolding note_lines
 returns g c =
     let law : Joins g.W.Sink = record { joined = g.met.W.Sink.joined } in
-    and_then law c.put_note.ensures (and_then law c.put_note-2.ensures (and_then law c.put_note-3.ensures (and_then law c.put_without.ensures (and_then law c.put_note-4.ensures (and_then law c.put_note-5.ensures (and_then law c.put_note-6.ensures (rw c.is_missing.ensures at c.put_note-7.ensures)))))))
+    and_then law c.put_note.ensures (and_then law c.put_note-2.ensures (and_then law c.put_note-3.ensures (and_then law c.put_without.ensures (and_then law c.put_note-4.ensures (and_then law c.put_note-5.ensures (and_then law c.put_note-6.ensures (rw c.is_missing-missing.ensures at c.put_note-7.ensures)))))))

@@ -14,9 +14,9 @@ words check =
 pub returns-clause-words : goal.returns-clause-words
 returns-clause-words c =
     let named : app_of c.display_order-check.result ≡ new_app (codes "check") =
-    ap app_of_fields c.display_order-check.ensures ∙ ap app_of_fields c.after_help.ensures ∙ ap app_of_fields c.about.ensures ∙ c.new.ensures.app in
+    ap app_of_fields c.display_order-check.ensures ∙ c.new_command.ensures.words in
     IfOk-weaker c.with_words.result _ _ (λ check is. is ∙ ap words named) c.with_words.ensures.words
 
 pub returns-clause-local : goal.returns-clause-local
 returns-clause-local c =
-    c.with_words.ensures.local (ap (λ f. f.has_globals) c.display_order-check.ensures ∙ ap (λ f. f.has_globals) c.after_help.ensures ∙ ap (λ f. f.has_globals) c.about.ensures ∙ c.new.ensures.local)
+    c.with_words.ensures.local (ap (λ f. f.has_globals) c.display_order-check.ensures ∙ c.new_command.ensures.local)

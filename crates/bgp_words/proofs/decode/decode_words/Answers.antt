@@ -1,7 +1,6 @@
-use Rattle.std.proofs.Common.{◌≡◌, ◌∙◌, ap, codes}
+use Rattle.std.proofs.Common.{◌∙◌, ap, codes}
 use Rattle.std.proofs.lemmas.Result.{IfOk-weaker}
-use Rattle.clap.specs.Words.{App, app_of, new_app, with_rule}
-use Rattle.clap.specs.Simple.{app_of_fields}
+use Rattle.clap.specs.Words.{App, with_rule}
 use Rattle.bgp_words.specs.Words.{file_word, flag_word, option_word, with_recording}
 use Rattle.bgp_words.proofs.decode.decode_words.Goals as goal
 
@@ -14,10 +13,8 @@ words decode =
 
 pub returns-clause-words : goal.returns-clause-words
 returns-clause-words c =
-    let named : app_of c.after_help-decode.result ≡ new_app (codes "decode") =
-    ap app_of_fields c.after_help-decode.ensures ∙ ap app_of_fields c.about.ensures ∙ c.new.ensures.app in
-    IfOk-weaker c.with_recording.result _ _ (λ decode is. is ∙ ap with_recording (c.in_ok-decode.ensures.words ∙ ap words named)) c.with_recording.ensures.words
+    IfOk-weaker c.with_recording.result _ _ (λ decode is. is ∙ ap with_recording (c.in_ok-decode.ensures.words ∙ ap words c.new_command-decode.ensures.words)) c.with_recording.ensures.words
 
 pub returns-clause-local : goal.returns-clause-local
 returns-clause-local c =
-    c.with_recording.ensures.local (c.in_ok-decode.ensures.local (ap (λ f. f.has_globals) c.after_help-decode.ensures ∙ ap (λ f. f.has_globals) c.about.ensures ∙ c.new.ensures.local))
+    c.with_recording.ensures.local (c.in_ok-decode.ensures.local c.new_command-decode.ensures.local)

@@ -7,8 +7,8 @@ use Rattle.bgp_words.proofs.judge.judge_words.Goals as goal
 
 pub returns-clause-words : goal.returns-clause-words
 returns-clause-words c =
-    let named : app_of c.after_help-judge.result ≡ new_app (codes "judge") =
-    ap app_of_fields c.after_help-judge.ensures ∙ ap app_of_fields c.override_usage.ensures ∙ ap app_of_fields c.about.ensures ∙ c.new.ensures.app in
+    let named : app_of c.override_usage-judge.result ≡ new_app (codes "judge") =
+    ap app_of_fields c.override_usage-judge.ensures ∙ c.new_command.ensures.words in
     let filed = c.in_ok-judge.ensures.words.is ∙ ap (λ (a : App). with_rule a (file_word (codes "FILE"))) named in
     let set = c.in_ok-judge-2.ensures.words ∙ ap with_settings filed in
     let offers = c.in_ok-judge-3.ensures.words.is ∙ ap (λ (a : App). with_rule a (option_word (codes "offers"))) set in
@@ -18,4 +18,4 @@ returns-clause-words c =
 
 pub returns-clause-local : goal.returns-clause-local
 returns-clause-local c =
-    c.with_word-3.ensures.local (c.in_ok-judge-4.ensures.local (c.in_ok-judge-3.ensures.local (c.in_ok-judge-2.ensures.local (c.in_ok-judge.ensures.local (ap (λ f. f.has_globals) c.after_help-judge.ensures ∙ ap (λ f. f.has_globals) c.override_usage.ensures ∙ ap (λ f. f.has_globals) c.about.ensures ∙ c.new.ensures.local)))))
+    c.with_word-3.ensures.local (c.in_ok-judge-4.ensures.local (c.in_ok-judge-3.ensures.local (c.in_ok-judge-2.ensures.local (c.in_ok-judge.ensures.local (ap (λ f. f.has_globals) c.override_usage-judge.ensures ∙ c.new_command.ensures.local)))))

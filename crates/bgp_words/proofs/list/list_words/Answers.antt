@@ -1,7 +1,6 @@
-use Rattle.std.proofs.Common.{◌≡◌, ◌∙◌, ap, codes}
+use Rattle.std.proofs.Common.{◌∙◌, ap, codes}
 use Rattle.std.proofs.lemmas.Result.{IfOk-weaker}
-use Rattle.clap.specs.Words.{App, app_of, new_app, with_rule}
-use Rattle.clap.specs.Simple.{app_of_fields}
+use Rattle.clap.specs.Words.{App, with_rule}
 use Rattle.bgp_words.specs.Words.{file_word, flag_word, port_word}
 use Rattle.bgp_words.proofs.list.list_words.Goals as goal
 
@@ -11,10 +10,8 @@ words list =
 
 pub returns-clause-words : goal.returns-clause-words
 returns-clause-words c =
-    let named : app_of c.after_help-list.result ≡ new_app (codes "list") =
-    ap app_of_fields c.after_help-list.ensures ∙ ap app_of_fields c.about.ensures ∙ c.new.ensures.app in
-    IfOk-weaker c.with_words.result _ _ (λ list is. is ∙ ap words named) c.with_words.ensures.words
+    IfOk-weaker c.with_words.result _ _ (λ list is. is ∙ ap words c.new_command-list.ensures.words) c.with_words.ensures.words
 
 pub returns-clause-local : goal.returns-clause-local
 returns-clause-local c =
-    c.with_words.ensures.local (ap (λ f. f.has_globals) c.after_help-list.ensures ∙ ap (λ f. f.has_globals) c.about.ensures ∙ c.new.ensures.local)
+    c.with_words.ensures.local c.new_command-list.ensures.local

@@ -1,16 +1,13 @@
-use Rattle.std.proofs.Common.{◌≡◌, ◌∙◌, ap, codes}
+use Rattle.std.proofs.Common.{◌∙◌, ap, codes}
 use Rattle.std.proofs.lemmas.Result.{IfOk-weaker}
-use Rattle.clap.specs.Words.{App, app_of, new_app, with_rule}
-use Rattle.clap.specs.Simple.{app_of_fields}
+use Rattle.clap.specs.Words.{App, with_rule}
 use Rattle.bgp_words.specs.Words.{file_word}
 use Rattle.bgp_words.proofs.pair.pair_words.Goals as goal
 
 pub returns-clause-words : goal.returns-clause-words
 returns-clause-words c =
-    let named : app_of c.after_help-pair.result ≡ new_app (codes "pair") =
-    ap app_of_fields c.after_help-pair.ensures ∙ ap app_of_fields c.about.ensures ∙ c.new.ensures.app in
-    IfOk-weaker c.with_word.result _ _ (λ pair adds. adds.is ∙ ap (λ (a : App). with_rule a (file_word (codes "FILE"))) named) c.with_word.ensures.words
+    IfOk-weaker c.with_word.result _ _ (λ pair adds. adds.is ∙ ap (λ (a : App). with_rule a (file_word (codes "FILE"))) c.new_command-pair.ensures.words) c.with_word.ensures.words
 
 pub returns-clause-local : goal.returns-clause-local
 returns-clause-local c =
-    c.with_word.ensures.local (ap (λ f. f.has_globals) c.after_help-pair.ensures ∙ ap (λ f. f.has_globals) c.about.ensures ∙ c.new.ensures.local)
+    c.with_word.ensures.local c.new_command-pair.ensures.local

@@ -8,8 +8,7 @@ use Rattle.bgp_words.proofs.words.program.Goals as goal
 pub returns : goal.returns
 returns c =
     let versioned : app_of c.version.result ≡ on_top (λ s. record s { has_version = true }) (new_app (codes "bgp")) =
-    ap app_of_fields c.version.ensures ∙ ap (on_top (λ (s : Shape). record s { has_version = true })) c.new.ensures.app in
+    ap app_of_fields c.version.ensures ∙ ap (on_top (λ (s : Shape). record s { has_version = true })) c.new_command.ensures.words in
     let wanting = ap app_of_fields c.in_ok-program.ensures.0 ∙ ap app_of_fields c.subcommand_required-program.ensures
-    ∙ ap (on_top (λ (s : Shape). record s { subcommand_required = true }))
-    (ap app_of_fields c.after_help.ensures ∙ ap app_of_fields c.about.ensures ∙ versioned) in
+    ∙ ap (on_top (λ (s : Shape). record s { subcommand_required = true })) versioned in
     IfOk-weaker c.with_speakers.result _ _ (λ program is. is ∙ ap with_speakers (c.in_ok-program-2.ensures ∙ ap with_readers wanting)) c.with_speakers.ensures

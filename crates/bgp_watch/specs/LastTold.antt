@@ -4,7 +4,6 @@ use Rattle.bgp_prefix.specs.Shown.{ShownRecord}
 use Rattle.bgp_machine.specs.declared.fsm.Fsm.{Fsm}
 use Rattle.bgp_machine.specs.declared.fsm.Fsm.TheVariants as fsms
 use Rattle.bgp_judge.specs.Told.{told}
-use Rattle.bgp_judge.specs.Verdict.{No, Unfinished, VerdictValue, Yes}
 
 abbrev pub TellsEstablished : List ShownRecord → Type 0
 TellsEstablished records = (told records).fsm ≡ fsms.Established
@@ -19,8 +18,3 @@ pub record IsLastTold (records : List ShownRecord) (count : ℕ) : Type 0 where
 abbrev pub last_with : ℕ → ℕ → Fsm → ℕ
 last_with last count fsms.Established = count
 last_with last count state = last
-
-abbrev pub IsNoYes : VerdictValue → Type 0
-IsNoYes (Yes ends) = ⊥
-IsNoYes (No count) = Unit {0}
-IsNoYes Unfinished = Unit {0}

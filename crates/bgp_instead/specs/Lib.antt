@@ -1,0 +1,4 @@
+pub mod Places
+pub mod Sendable
+pub mod Kinds
+pub mod Connections

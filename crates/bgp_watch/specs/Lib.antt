@@ -1,0 +1,2 @@
+pub mod LastTold
+pub mod Front
