@@ -89,7 +89,13 @@ fn kept_after(
 {
     match named {
         None => kept,
-        Some(name) => { if name == number { NumberedRecord { number, micro } } else { kept } }
+        Some(name) => {
+            if name == number {
+                NumberedRecord { number, micro }
+            } else {
+                kept
+            }
+        }
     }
 }
 
