@@ -18,7 +18,7 @@ use crate::sendable::Sendable;
 use bgp_open::{
     Config, Notification, NotificationWriteFault, OpenSubcodes, write_notification, write_own_open,
 };
-use bgp_orders::{SentPlace, sent_place};
+use bgp_orders::{SentPlace, place_of_sent};
 use bgp_reason::FsmErrors;
 use bgp_recording::{Exchange, Message};
 use bgp_update::Subcodes;
@@ -328,7 +328,7 @@ pub fn sendable_instead<A: Allocator + Copy>(
         → AreSendable (CouldBeSent config.now within exchange.now before) config.now
         (last_octets exchange.now.received.now) sendable)) }
 {
-    let Some(place) = sent_place(alloc, config, exchange, within, before)? else {
+    let Some(place) = place_of_sent(alloc, config, exchange, within, before)? else {
         return Ok(None);
     };
     if place.node_count() > MOST_ASKED {

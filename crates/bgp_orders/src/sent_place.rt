@@ -76,7 +76,7 @@ fn row_behind<A: Allocator + Copy>(
 ///
 /// Takes the time and memory of [`explained_count`](crate::explained_count) up to there. Returns
 /// `None` if there are more nodes than [`MOST_NODES`], and `AllocError` if memory is refused.
-pub fn sent_place<'l, 'a, A: Allocator + Copy>(
+pub fn place_of_sent<'l, 'a, A: Allocator + Copy>(
     alloc: A,
     config: &Config,
     exchange: &Exchange<'l, 'a>,
