@@ -20,7 +20,7 @@ returns-in_err-matches-clause-err g c =
     let words = map g.S.AsStr.text c.args.words.now in
     let error = c.in_err-matches.field-0.0 in
     let has = c.in_err-matches.ensures.kinds in
-    handed_on c.from_residual-in_err-matches.result error _ c.from_residual-in_err-matches.ensures.1
+    handed_on c.from_residual.result error _ c.from_residual.ensures.1
     (known_kind (fault_of program_words words) (ValueValidation ∷ []) error has)
 
 pub returns-in_err-matches-clause-decode : goal.returns-in_err-matches-clause-decode
@@ -28,7 +28,7 @@ returns-in_err-matches-clause-decode g c file is =
     let words = map g.S.AsStr.text c.args.words.now in
     let error = c.in_err-matches.field-0.0 in
     let has = c.in_err-matches.ensures.kinds in
-    memory_handed_on c.from_residual-in_err-matches.result error file c.from_residual-in_err-matches.ensures.1
+    memory_handed_on c.from_residual.result error file c.from_residual.ensures.1
     (only_memory (fault_of program_words words) error has (spelled_decode words file is).0)
 
 pub returns-in-Ok-clause-ok : goal.returns-in-Ok-clause-ok
@@ -71,9 +71,9 @@ returns-in_err-matches-clause-rows g c name =
     let words = map g.S.AsStr.text c.args.words.now in
     let error = c.in_err-matches.field-0.0 in
     let has = c.in_err-matches.ensures.kinds in
-    let r = c.from_residual-in_err-matches.result in
+    let r = c.from_residual.result in
     each_row words r name (λ kind one.
-    fault_handed_on r error (fault_of program_words words) kind c.from_residual-in_err-matches.ensures.1 has one)
+    fault_handed_on r error (fault_of program_words words) kind c.from_residual.ensures.1 has one)
 
 pub returns-in-Ok-clause-rows : goal.returns-in-Ok-clause-rows
 returns-in-Ok-clause-rows g c name =
@@ -92,7 +92,7 @@ returns-in_err-matches-clause-none g c =
     let words = map g.S.AsStr.text c.args.words.now in
     let error = c.in_err-matches.field-0.0 in
     let has = c.in_err-matches.ensures.kinds in
-    unspelled_handed_on c.from_residual-in_err-matches.result error words c.from_residual-in_err-matches.ensures.1
+    unspelled_handed_on c.from_residual.result error words c.from_residual.ensures.1
     (only_memory (fault_of program_words words) error has)
 
 pub returns-in_err-usage-in-Err-clause-none : goal.returns-in_err-usage-in-Err-clause-none
@@ -104,7 +104,7 @@ returns-in_err-matches-clause-judge g c config file line =
     let words = map g.S.AsStr.text c.args.words.now in
     let error = c.in_err-matches.field-0.0 in
     let has = c.in_err-matches.ensures.kinds in
-    judge_memory_handed_on c.from_residual-in_err-matches.result error words c.from_residual-in_err-matches.ensures.1
+    judge_memory_handed_on c.from_residual.result error words c.from_residual.ensures.1
     (only_memory (fault_of program_words words) error has (spelled_right words config.parts file line))
 
 pub returns-in-Ok-clause-judge : goal.returns-in-Ok-clause-judge
@@ -127,9 +127,9 @@ returns-in_err-matches-clause-values g c name =
     let words = map g.S.AsStr.text c.args.words.now in
     let error = c.in_err-matches.field-0.0 in
     let has = c.in_err-matches.ensures.kinds in
-    let r = c.from_residual-in_err-matches.result in
+    let r = c.from_residual.result in
     each_value words r name ValueValidation (λ none.
-    memory_handed r error ValueValidation c.from_residual-in_err-matches.ensures.1 (only_memory (fault_of program_words words) error has none.passes))
+    memory_handed r error ValueValidation c.from_residual.ensures.1 (only_memory (fault_of program_words words) error has none.passes))
 
 pub returns-in-Ok-clause-values : goal.returns-in-Ok-clause-values
 returns-in-Ok-clause-values g c name =
