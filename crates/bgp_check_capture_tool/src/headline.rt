@@ -22,7 +22,8 @@ use std::alloc::Allocator;
 /// under which the OPEN that was sent is the local system's own has a run that shows the records of
 /// that stretch up to record N of the session; of these records, ROUTE-REFRESH messages that their
 /// receiver offered are passed over. Some such configuration has a run that shows those before it,
-/// if the OPEN is any configuration's own. That is the clause `no`. All that is printed is tied to
+/// if the OPEN is any configuration's own. The line tells the time of record N, with the fraction in
+/// its octets, if they have one. That is the clause `no`. All that is printed is tied to
 /// the file, so that no other line passes for one of these.
 ///
 /// It writes a line for each session, in the order of their first records, and after it what is

@@ -101,7 +101,7 @@ fn kept_after(
 
 impl Fractions {
     /// Returns those before the first record.
-    pub fn none() -> Fractions
+    pub(crate) fn none() -> Fractions
         ensures { AreKept [] no_names result }
     {
         let none = NumberedRecord {

@@ -59,6 +59,9 @@ pub(crate) fn write_explained<W: Sink, A: Allocator + Copy>(
 /// * after a yes how many records there are, and of which kinds; and how many were skipped, since
 ///   they are of another session, with the addresses of the first of these, or of another kind.
 ///
+/// Each record that is named has its time: its second, and the fraction that its octets tell, if they
+/// tell one.
+///
 /// After a refusal it writes nothing more. Where the sink failed, a beginning of that text is
 /// written, and the status is 5. Where memory was refused for the reason, `note: out of memory for the
 /// reason` stands in its place, and the verdict and the status are told all the same: so memory is

@@ -114,7 +114,11 @@ pub fn put_notes<W: Sink>(lines: &mut Lines<'_, W>, style: &Style, notes: &Notes
     put_note(lines, notes.open_came_first, Note::OpenCameFirst);
     put_without(lines, notes.without);
     put_note(lines, notes.extended_parameters, Note::ExtendedParameters);
-    put_note(lines, notes.keepalive_without_hold, Note::KeepaliveWithoutHold);
+    put_note(
+        lines,
+        notes.keepalive_without_hold,
+        Note::KeepaliveWithoutHold,
+    );
     put_note(lines, notes.may_have_ended, Note::MayHaveEnded);
     let missing = is_missing(style.is_recording, notes);
     put_note(lines, missing, Note::MayBeMissing);
@@ -139,8 +143,12 @@ pub fn shown_notes(style: &Style, notes: &Notes) -> [Option<Note>; NOTES]
         notes.begins_elsewhere.then_some(Note::BeginsElsewhere),
         notes.open_came_first.then_some(Note::OpenCameFirst),
         without_note(notes.without),
-        notes.extended_parameters.then_some(Note::ExtendedParameters),
-        notes.keepalive_without_hold.then_some(Note::KeepaliveWithoutHold),
+        notes
+            .extended_parameters
+            .then_some(Note::ExtendedParameters),
+        notes
+            .keepalive_without_hold
+            .then_some(Note::KeepaliveWithoutHold),
         notes.may_have_ended.then_some(Note::MayHaveEnded),
         is_missing(style.is_recording, notes).then_some(Note::MayBeMissing),
     ]
