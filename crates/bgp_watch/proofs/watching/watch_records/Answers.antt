@@ -8,7 +8,7 @@ use Rattle.bgp_judge.specs.Verdict.{IsVerdict}
 use Rattle.bgp_judge.proofs.Lacking.{lacks_at, on_err}
 use Rattle.bgp_judge.proofs.Verdicts.{no_record_begins, shown_more, shown_all, first_impossible}
 use Rattle.bgp_watch.specs.Front.{IsWatched, front_value}
-use Rattle.bgp_watch.proofs.Fronts.{not_last_told}
+use Rattle.bgp_watch.proofs.Fronts.{not_last_told, so_many}
 use Rattle.bgp_watch.proofs.watching.watch_records.Goals as goal
 
 pub loop-count-init : goal.loop-count-init
@@ -52,14 +52,14 @@ loop-count-preserved g c =
           c.loop-count.invariant.watched);
     }
 
+pub returns-in_err-verdict-clause-memory : goal.returns-in_err-verdict-clause-memory
+returns-in_err-verdict-clause-memory g c =
+    let all = shown_all c.args.records.now c.loop-count.count c.loop-count-test.false in
+    on_err (LacksMemoryFor g.T.Tracker.may_lack_at_start g.T.Tracker.may_lack c.args.config.now (map shown_of c.args.records.now)) c.from_residual-in_err-verdict.result
+    (inr (inr (subst (λ (v : List ShownRecord). Begins c.args.config.now v) all c.loop-count.invariant.begins)))
+
 pub returns-clause-verdict : goal.returns-clause-verdict
 returns-clause-verdict g c =
     let all = shown_all c.args.records.now c.loop-count.count c.loop-count-test.false in
-    subst (λ (v : List ShownRecord). IfOk c.verdict_of.result (IsVerdict c.args.config.now v)) all
-    (c.verdict_of.ensures c.args.config.now (map shown_of (take c.loop-count.count c.args.records.now)) c.loop-count.invariant.stands c.loop-count.invariant.begins)
-
-pub returns-clause-memory : goal.returns-clause-memory
-returns-clause-memory g c =
-    let all = shown_all c.args.records.now c.loop-count.count c.loop-count-test.false in
-    on_err (LacksMemoryFor g.T.Tracker.may_lack_at_start g.T.Tracker.may_lack c.args.config.now (map shown_of c.args.records.now)) c.verdict_of.result
-    (inr (inr (subst (λ (v : List ShownRecord). Begins c.args.config.now v) all c.loop-count.invariant.begins)))
+    subst (λ (v : List ShownRecord). IsVerdict c.args.config.now v c.in_ok-verdict.verdict) all
+    (c.in_ok-verdict.ensures c.args.config.now (map shown_of (take c.loop-count.count c.args.records.now)) c.loop-count.invariant.stands c.loop-count.invariant.begins)
