@@ -215,9 +215,9 @@ module _ {X : Type 0} (law : EachOwedCanBeMet) (config : Config) (within : ℕ) 
   pub could_of_takes : IsTold exchange → Has (λ node. Takes place.search.config place.search.within place.search.exchange octets node) place.nodes.items
       → CouldBeSent config within exchange before octets
   could_of_takes told h =
-      let a = subst (λ (v : Config). Has (λ node. Takes v place.search.within place.search.exchange octets node) place.nodes.items) is.config h in
-      let b = subst (λ (v : ℕ). Has (λ node. Takes config v place.search.exchange octets node) place.nodes.items) is.within a in
-      let c = subst (λ (v : Exchange). Has (λ node. Takes config within v octets node) place.nodes.items) is.exchange b in
+      let a = subst (λ (v : Config). Has (λ node. Takes v place.search.within place.search.exchange octets node) place.nodes.items) is.same_config h in
+      let b = subst (λ (v : ℕ). Has (λ node. Takes config v place.search.exchange octets node) place.nodes.items) is.same_within a in
+      let c = subst (λ (v : Exchange). Has (λ node. Takes config within v octets node) place.nodes.items) is.same_exchange b in
       let k = some_sends config within exchange octets place.nodes.items c in
       could_at_node law config within exchange before octets k.0 told ((is.row k.0).0 k.1) k.2
 
@@ -226,9 +226,9 @@ module _ {X : Type 0} (law : EachOwedCanBeMet) (config : Config) (within : ℕ) 
   takes_of_could x =
       let k = node_of_could law config within exchange before octets x in
       let c = some_takes config within exchange octets place.nodes.items k.0 ((is.row k.0).1 k.1) k.2 in
-      let b = subst (λ (v : Exchange). Has (λ node. Takes config within v octets node) place.nodes.items) (sym is.exchange) c in
-      let a = subst (λ (v : ℕ). Has (λ node. Takes config v place.search.exchange octets node) place.nodes.items) (sym is.within) b in
-      subst (λ (v : Config). Has (λ node. Takes v place.search.within place.search.exchange octets node) place.nodes.items) (sym is.config) a
+      let b = subst (λ (v : Exchange). Has (λ node. Takes config within v octets node) place.nodes.items) (sym is.same_exchange) c in
+      let a = subst (λ (v : ℕ). Has (λ node. Takes config v place.search.exchange octets node) place.nodes.items) (sym is.same_within) b in
+      subst (λ (v : Config). Has (λ node. Takes v place.search.within place.search.exchange octets node) place.nodes.items) (sym is.same_config) a
 
 -- ---- what the code asks
 

@@ -50,7 +50,7 @@ pub record Takes {X : Type 0} (config : Config) (within : ℕ) (exchange : Excha
 -- its nodes are the row of so many sent messages
 pub record IsSentPlace {X : Type 0} (config : Config) (within : ℕ) (exchange : Exchange)
     (before : ℕ) (place : SentPlace X) : Type 0 where
-  pub config : place.search.config ≡ config
-  pub within : place.search.within ≡ within
-  pub exchange : place.search.exchange ≡ exchange
+  pub same_config : place.search.config ≡ config
+  pub same_within : place.search.within ≡ within
+  pub same_exchange : place.search.exchange ≡ exchange
   pub row : IsRow config within exchange before place.nodes.items

@@ -3,11 +3,11 @@ use Rattle.bgp_judge.proofs.Gaining.{has_here, none_more, none_all}
 use Rattle.bgp_orders.specs.SentPlaces.{Takes}
 use Rattle.bgp_orders.proofs.sent_place.SentPlace.may_send_at_some.Goals as goal
 
-pub returns-then-may_send_at : goal.returns-then-may_send_at
-returns-then-may_send_at g c =
+pub returns-then-branch : goal.returns-then-branch
+returns-then-branch g c =
     let s = c.args.self.now.search in (
       λ t. has_here (λ v. Takes s.config s.within s.exchange c.args.octets.now v) c.args.nodes.now c.loop-node.node-index c.node-item.result c.loop-node-test.true
-          (subst (λ v. Takes s.config s.within s.exchange c.args.octets.now v) c.node-item.is (c.in_ok-may_send_at.ensures.0 c.if-may_send_at.true)),
+          (subst (λ v. Takes s.config s.within s.exchange c.args.octets.now v) c.node-item.is (c.in_ok-may_send_at.ensures.0 c.if-branch.true)),
       λ h. refl,
     )
 
