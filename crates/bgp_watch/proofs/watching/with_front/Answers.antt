@@ -22,6 +22,6 @@ returns-else-starts_established g c = λ config records shown stands len above i
     (none_found c.records_tell_the_state.ensures.each config (records ++ shown ∷ []) (map end_value c.in-Ok.ends.items)
     (c.in-Ok.ensures config (records ++ shown ∷ []) stands)
     (λ starts.
-        let is_so : IsTrue c.starts_established.result = c.starts_established.ensures.1 (subst (λ ends. StartsEstablished (map end_value ends)) (sym c.as_slice.ensures.value) starts) in
-        let is_not = c.if-starts_established.false in
-        cc)) is
+    let is_so : IsTrue c.starts_established.result = c.starts_established.ensures.1 (subst (λ ends. StartsEstablished (map end_value ends)) (sym c.as_slice.ensures.value) starts) in
+    let is_not = c.if-starts_established.false in
+    cc)) is
