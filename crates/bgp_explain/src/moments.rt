@@ -164,7 +164,8 @@ fn notification_after(
 impl Moments {
     /// Returns those of no records.
     pub(crate) fn nothing() -> Moments
-        ensures { (config : TheConfig) → AreMomentsOf config [] result }
+        ensures are { (config : TheConfig) → AreMomentsOf config [] result }
+        ensures none { result.notification ≡ None }
     {
         Moments {
             first: None,

@@ -85,7 +85,7 @@ loop-shown-preserved g c =
     let counted = c.loop-shown.invariant.counted in
     let many = so_many g.S.Source.gives g.S.Source.has_ended g.met.S.Source.joined g.S.Source.given_count g.met.S.Source.counted c.args.config.now c.args.source.now g.T.Tracker.may_lack _ _ records so in
     let (read, its) = one_read g.S.Source.gives g.S.Source.has_ended g.met.S.Source.joined g.S.Source.given_count g.met.S.Source.counted c.args.config.now c.args.source.now g.T.Tracker.may_lack _ _ _ _ records _ so is in
-    let names = subst (λ (n : ℕ). AreNamesAfter n (progress_names c.loop-shown.progress) (progress_names c.advance-advanced.new.progress)) (ap (λ (n : ℕ). n + 1) (sym number)) (c.advance-advanced.ensures.names records at) in
+    let names = subst (λ (n : ℕ). AreNamesAfter n (progress_names c.loop-shown.progress) (progress_names c.advance-advanced.new.self)) (ap (λ (n : ℕ). n + 1) (sym number)) (c.advance-advanced.ensures.names records at) in
     let next = ap (λ (n : ℕ). n + 1) (number ∙ sym many) in
     let more_kept = rw (c.names_of.ensures, c.micro.ensures) at (c.with-fractions.ensures (micros_of so.pieces) (progress_names c.loop-shown.progress) next (rw c.names_of.ensures names) kept) in record {
       so_far = (
@@ -94,7 +94,7 @@ loop-shown-preserved g c =
         c.in-Ok.ensures.next records at,
         c.with_confederation-confederation.ensures records shows,
         sym (one_longer records (shown_of c.in-Ok-Some.shown) _ (sym number)),
-        subst (λ (m : List (Option ℕ)). AreKept m (progress_names c.advance-advanced.new.progress) c.with-fractions.result) (sym its) more_kept,
+        subst (λ (m : List (Option ℕ)). AreKept m (progress_names c.advance-advanced.new.self) c.with-fractions.result) (sym its) more_kept,
       );
       few = omega (arith, few, more, passes);
       counted = omega (arith, counted, passes);
