@@ -11,9 +11,9 @@
 #![tactic(auto)]
 
 mod front;
-mod last_told;
+mod telling;
 mod watching;
 
 pub use front::Front;
-pub use last_told::last_told;
+pub use telling::last_told;
 pub use watching::{Watched, watch_records};

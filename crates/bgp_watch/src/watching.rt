@@ -12,7 +12,7 @@ ghost use Rattle.bgp_watch.specs.Front.{IsWatched, StartsEstablished, front_valu
 ghost use Rattle.bgp_watch.specs.LastTold.{IsLastTold, TellsEstablished};
 
 use crate::front::Front;
-use crate::last_told::last_told;
+use crate::telling::last_told;
 use bgp_judge::{End, Tracker, Verdict, records_tell_the_state, verdict_of};
 use bgp_machine::Fsm;
 use bgp_open::Config;

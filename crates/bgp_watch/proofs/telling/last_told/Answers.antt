@@ -1,6 +1,6 @@
 use Rattle.std.proofs.Common.{◌+◌, ℕ, ap}
 use Rattle.bgp_watch.proofs.Fronts.{one_more}
-use Rattle.bgp_watch.proofs.last_told.last_told.Goals as goal
+use Rattle.bgp_watch.proofs.telling.last_told.Goals as goal
 
 pub loop-shown-preserved : goal.loop-shown-preserved
 loop-shown-preserved c =

@@ -1,7 +1,7 @@
 use Rattle.std.proofs.Common.{◌≡◌, map}
 use Rattle.mrt.specs.Reader.{shown_of}
 use Rattle.bgp_watch.proofs.Fronts.{ToldSoFar}
-use Rattle.bgp_watch.proofs.last_told.last_told.Given as goal
+use Rattle.bgp_watch.proofs.telling.last_told.Given as goal
 
 -- what is told so far, and after which front Established was told last
 abbrev pub invariant-loop-shown : goal.invariant-loop-shown
