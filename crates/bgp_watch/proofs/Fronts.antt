@@ -6,7 +6,7 @@ use Rattle.bgp_prefix.specs.Shown.{ShownRecord}
 use Rattle.mrt.specs.Reader.{shown_of}
 use Rattle.mrt.specs.declared.record.Record.{Record}
 use Rattle.bgp_open.specs.declared.config.Config.{Config}
-use Rattle.bgp_machine.specs.Lists.{Each, Has}
+use Rattle.bgp_machine.specs.Lists.{Each}
 use Rattle.bgp_machine.specs.Run.{End, IsComplete}
 use Rattle.bgp_machine.specs.declared.fsm.Fsm.{Fsm}
 use Rattle.bgp_machine.specs.declared.fsm.Fsm.TheVariants as fsms

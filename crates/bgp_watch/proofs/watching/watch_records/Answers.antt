@@ -1,5 +1,4 @@
-use Rattle.std.proofs.Common.{◌≡◌, ◌∙◌, ◌<◌, ◌+◌, ◌++◌, ◌∷◌, [], ℕ, IfOk, List, ap, arith, get_or, inl, inr, length, map, option_map, rules, subst, sym, take}
-use Rattle.std.proofs.lemmas.List.{length-map, length-take-le}
+use Rattle.std.proofs.Common.{◌∙◌, ◌≤◌, ◌+◌, List, ap, arith, inl, inr, length, map, option_map, rules, subst, take}
 use Rattle.bgp_prefix.specs.Shown.{ShownRecord}
 use Rattle.bgp_machine.specs.Run.{Begins}
 use Rattle.mrt.specs.Reader.{shown_of}
@@ -8,6 +7,7 @@ use Rattle.bgp_judge.specs.Verdict.{IsVerdict}
 use Rattle.bgp_judge.proofs.Lacking.{lacks_at, on_err}
 use Rattle.bgp_judge.proofs.Verdicts.{no_record_begins, shown_more, shown_all, first_impossible}
 use Rattle.bgp_watch.specs.Front.{IsWatched, front_value}
+use Rattle.bgp_watch.specs.LastTold.{TellsEstablished}
 use Rattle.bgp_watch.proofs.Fronts.{not_last_told, so_many}
 use Rattle.bgp_watch.proofs.watching.watch_records.Goals as goal
 
@@ -38,6 +38,7 @@ loop-count-preserved g c =
     let config = c.args.config.now in
     let records = c.args.records.now in
     let count = c.loop-count.count in
+    let within : count + 1 ≤ length records = let test = c.loop-count-test.true in omega (arith, test) in
     let so_far = map shown_of (take count records) in
     let more = shown_more records count _ c.loop-count-test.true in
     let stands = c.in_ok-take.ensures.next config so_far c.loop-count.invariant.stands c.if-not-branch.false in
@@ -47,8 +48,8 @@ loop-count-preserved g c =
           ((c.in_ok-take.ensures.alive config so_far c.loop-count.invariant.stands).0 c.if-not-branch.false);
       watched = subst (λ (v : List ShownRecord). IsWatched config v (option_map front_value c.with_front-before.result)) more
           (c.with_front-before.ensures config so_far _ stands
-          (ap length more ∙ so_many records (count + 1) (omega (arith, c.loop-count-test.true)))
-          (λ above tells. not_last_told records count c.fronts_of-fronts.result.last c.fronts_of-fronts.ensures above c.loop-count-test.true (subst TellsEstablished more tells))
+          (ap length more ∙ so_many records (count + 1) within)
+          (λ above tells. not_last_told records (count + 1) c.fronts_of-fronts.result.last c.fronts_of-fronts.ensures above within (subst TellsEstablished more tells))
           c.loop-count.invariant.watched);
     }
 

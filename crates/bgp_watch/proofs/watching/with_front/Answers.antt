@@ -1,5 +1,4 @@
-use Rattle.std.proofs.Common.{◌≡◌, ◌++◌, ◌∷◌, [], IsTrue, List, map, option_map, subst, sym}
-use Rattle.bgp_machine.specs.Run.{End}
+use Rattle.std.proofs.Common.{◌++◌, ◌∷◌, [], IsTrue, map, option_map, subst, sym}
 use Rattle.bgp_judge.specs.Ends.{end_value}
 use Rattle.bgp_watch.specs.Front.{StartsEstablished, front_value}
 use Rattle.bgp_watch.proofs.Fronts.{found_front, kept_front, none_found, not_told}
