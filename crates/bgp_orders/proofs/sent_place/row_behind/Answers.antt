@@ -1,4 +1,4 @@
-use Rattle.std.proofs.Common.{sym, subst}
+use Rattle.std.proofs.Common.{◌+◌, sym, subst}
 use Rattle.bgp_orders.specs.Rows.{IsRow}
 use Rattle.bgp_orders.proofs.Counts.{some_is}
 use Rattle.bgp_orders.proofs.sent_place.row_behind.Goals as goal
