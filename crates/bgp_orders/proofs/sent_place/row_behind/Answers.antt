@@ -11,6 +11,6 @@ loop-count-init g c =
 pub loop-count-preserved : goal.loop-count-preserved
 loop-count-preserved g c =
     let s = c.args.search.now in
-    let count = c.loop-count.count in
+    let count = c.loop-count._count in
     some_is c.in_ok-next.field-0 c.in-Some-2.next (λ nodes. IsRow s.config s.within s.exchange (count + 1) nodes.items) c.in-Some-2.is
     (c.in_ok-next.ensures count (subst (λ v. IsRow s.config s.within s.exchange count v) (sym c.as_slice.ensures.value) c.loop-count.invariant))
