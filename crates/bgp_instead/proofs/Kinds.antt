@@ -1,5 +1,5 @@
 -- Each message that could have been sent is of a kind that could have been.
-use Rattle.std.proofs.Common.{◌≡◌, ◌≤◌, ◌⊎◌, inl, inr, ◌+◌, ℕ, zero, suc, Bool, false, true, IsTrue, IfSome, IsSome, IsSomeAnd, MatchOption, List, [], ◌∷◌, Option, None, Some, length, get_or, refl, sym, ap, subst, ◌∙◌, arith}
+use Rattle.std.proofs.Common.{◌≡◌, ◌≤◌, ◌⊎◌, inl, inr, ◌+◌, ℕ, zero, suc, Bool, false, IsTrue, IsSome, MatchOption, List, [], ◌∷◌, Option, None, Some, length, get_or, refl, sym, subst, arith}
 use Rattle.std.proofs.Math.Nat.{le_refl}
 use Rattle.byteorder.specs.Endian.{big_bytes}
 use Rattle.bgp_prefix.specs.Shown.{ShownRecord, Sent}
@@ -31,14 +31,13 @@ use Rattle.bgp_recording.specs.Allowed as items
 use Rattle.bgp_recording.specs.Tells.{Passed}
 use Rattle.bgp_orders.specs.SentPlaces.{CouldBeSent}
 use Rattle.bgp_orders.specs.Ways.{records_of_front}
-use Rattle.bgp_reason.specs.declared.kinds.FsmErrors.{FsmErrors}
 use Rattle.bgp_reason.specs.Following.{MayFollow}
 use Rattle.bgp_reason.specs.Possible.{HasFsmError}
 use Rattle.bgp_reason.specs.Sending.{sending_link}
 use Rattle.bgp_reason.proofs.OneForAll.{IsLike, alive_frame, alive_is_message, notified, sending}
 use Rattle.bgp_instead.specs.declared.sendable.Sendable.{Sendable}
 use Rattle.bgp_instead.specs.Kinds.{EachIsOfAKind, IsNotified, IsOfAKind, NamesHeaderError}
-use Rattle.bgp_instead.specs.Sendable.{AreFsmErrors, AreHeaderErrors, AreOpenErrors, AreSendable, AreUpdateErrors}
+use Rattle.bgp_instead.specs.Sendable.{AreSendable}
 
 -- ---- NOTIFICATIONs that are like each other
 
@@ -118,10 +117,6 @@ empty_meets : HasCleanUpdate → (config : Config) (link : Link) → Meets confi
 empty_meets clean config link = record { whole = clean.frame (limit_on (Some link)); fulfils = clean.clean link }
 
 -- ---- data of Message Header Error
-
-data_of : (x : Option ℕ) (n : ℕ) (d : List ℕ) (F : ℕ → List ℕ) → MatchOption x ⊥ (λ v. d ≡ F v) → IfSome x (λ v. v ≡ n) → d ≡ F n
-data_of None n d F s all = absurd s
-data_of (Some v) n d F s all = s ∙ ap F all
 
 some_length : (x : Option ℕ) (P : Type 0) (Q : ℕ → Type 0) → MatchOption x P Q → (P → ⊥) → IsSome x
 some_length None P Q m not = absurd (not m)

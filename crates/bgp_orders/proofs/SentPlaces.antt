@@ -13,7 +13,7 @@ use Rattle.bgp_recording.specs.First.{IsFirst}
 use Rattle.bgp_recording.specs.Leads.{MayPass}
 use Rattle.bgp_recording.specs.Tells.{Event, Passed, AreTimed, items_in}
 use Rattle.bgp_recording.specs.Told.{AreClocked, IsTold}
-use Rattle.bgp_judge.specs.Chains.{bare, BareNext}
+use Rattle.bgp_judge.specs.Chains.{bare}
 use Rattle.bgp_judge.specs.Member.{Member, fresh_member}
 use Rattle.bgp_judge.specs.Next.{Next}
 use Rattle.bgp_judge.specs.declared.member.PlainMember.{PlainMember}
@@ -24,7 +24,7 @@ use Rattle.bgp_orders.specs.declared.node.Spot.{Spot}
 use Rattle.bgp_orders.specs.declared.search.Turn.{Turn}
 use Rattle.bgp_orders.specs.declared.sent_place.SentPlace.{SentPlace}
 use Rattle.bgp_orders.specs.Nodes.{Node, Goes, first_node}
-use Rattle.bgp_orders.specs.Rows.{InRow, IsIn, IsOf, IsRow, node_at}
+use Rattle.bgp_orders.specs.Rows.{InRow, IsIn, IsOf, node_at}
 use Rattle.bgp_orders.specs.SentPlaces.{CouldBeSent, IsSentPlace, Takes}
 use Rattle.bgp_orders.specs.Turns.{Saying}
 use Rattle.bgp_orders.specs.Ways.{IsWay, records_of_front}
