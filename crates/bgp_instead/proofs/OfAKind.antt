@@ -120,7 +120,7 @@ empty_meets clean config link = record { whole = clean.frame (limit_on (Some lin
 
 some_length : (x : Option ℕ) (P : Type 0) (Q : ℕ → Type 0) → MatchOption x P Q → (P → ⊥) → IsSome x
 some_length None P Q m not = absurd (not m)
-some_length (Some v) P Q m not = tt
+some_length (Some v) P Q m not = refl
 
 -- ---- what could be sent
 
