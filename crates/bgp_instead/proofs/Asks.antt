@@ -18,7 +18,7 @@ then_could true n x F e h = subst (λ (v : Option ℕ). IfSome v F) (sym e) (h r
 then_could false n x F e h = subst (λ (v : Option ℕ). IfSome v F) (sym e) tt
 
 pub none_some : {X : Type 0} (x : Option X) → x ≡ None → IsSome x → ⊥
-none_some x e some = let k : IsSome {T = X} None = subst (λ (v : Option X). IsSome v) e some in cc
+none_some {X = X} x e some = let k : IsSome {T = X} None = subst (λ (v : Option X). IsSome v) e some in cc
 
 pub field_so : (x : Option ℕ) (n m : ℕ) (Whole : Type 0) (F : ℕ → Type 0) → n ≡ m → IfSome x (λ v. v ≡ n) → IfSome x F → IfNone x (¬ F n)
     → MatchOption x (Whole → ¬ F m) (λ v. (v ≡ m) × F v)

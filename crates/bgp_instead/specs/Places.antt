@@ -1,5 +1,5 @@
 -- What the place of a sent message is of, and what could have been sent in it.
-use Rattle.std.specs.Prelude.{◌≡◌, ◌-◌, ℕ, List, [], Option, None, Some, length, slice_get}
+use Rattle.std.specs.Prelude.{◌-◌, ℕ, List, [], Option, None, Some, length, slice_get}
 use Rattle.bgp_open.specs.declared.config.Config.{Config}
 use Rattle.bgp_recording.specs.declared.message.Message.{Message}
 use Rattle.bgp_recording.specs.declared.ordering.Exchange.{Exchange}
