@@ -1,0 +1,8 @@
+use Rattle.std.proofs.Common.{codes}
+use Rattle.bgp_json_values.proofs.Members.{member}
+use Rattle.bgp_json_verdicts.specs.RouteJson.{router_json}
+use Rattle.bgp_json_verdicts.proofs.route.put_originator.Goals as goal
+
+pub returns-in_ok-key-in-Some : goal.returns-in_ok-key-in-Some
+returns-in_ok-key-in-Some g c =
+    rw c.in-Some.is (member (codes "originator") (router_json c.in-Some.number) c.in_ok-key-in-Some.ensures c.put_router.ensures)

@@ -1,0 +1,7 @@
+pub mod At
+pub mod Lines
+pub mod RouteJson
+pub mod Objects
+pub mod Telling
+pub mod Printed
+pub mod Teller
