@@ -1,2 +1,2 @@
 pub mod Asks
-pub mod Kinds
+pub mod OfAKind

@@ -1,4 +1,4 @@
-use Rattle.bgp_instead.proofs.Kinds.{each_is_of_a_kind}
+use Rattle.bgp_instead.proofs.OfAKind.{each_is_of_a_kind}
 use Rattle.bgp_instead.proofs.laws.each_message_is_of_a_kind.Goals as goal
 
 pub returns : goal.returns
