@@ -61,7 +61,7 @@ another_of (OtherThan number) = Some number
 
 -- packets show the records
 abbrev pub are_shown : Places → Bool
-are_shown Counted = false
+are_shown (Counted fractions) = false
 are_shown (Shown entries) = true
 are_shown (Numbered numbers) = false
 
