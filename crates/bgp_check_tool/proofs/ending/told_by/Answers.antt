@@ -171,8 +171,8 @@ returns g c = λ clocked made.
     (reason_so viewed.session framings.sent.limit peer records (second_at entries 0) (shown_places entries) answer told.deed _ told.reason _ is.reason.0 is.reason.1 c.in_ok-reason-in-Another.ensures)
     is.unshown.0 is.unshown.1
 
-pub reached_on-requires-in-Nothing-clause-watched : goal.reached_on-requires-in-Nothing-clause-watched
-reached_on-requires-in-Nothing-clause-watched g c =
+pub reached_on-requires-clause-watched : goal.reached_on-requires-clause-watched
+reached_on-requires-clause-watched g c =
     subst (λ (rs : List ShownRecord). IsWatchedFor rs (answer_value c.in_ok-watched.watched.answer) (option_map front_value c.in_ok-watched.watched.before))
     (ap (map shown_of) c.as_slice-records.ensures.value ∙ c.requires.records) c.in_ok-watched.ensures.before
 
