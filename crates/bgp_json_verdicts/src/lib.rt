@@ -1,5 +1,5 @@
-//! Verdicts, their ends with routes, and their reasons as JSON, as `bgp judge --json` prints them:
-//! an object a line.
+//! Verdicts, their ends with routes, and their reasons as JSON, an object a line. No command prints
+//! them yet.
 //!
 //! Each line has a text (`specs/Lines.antt`), which is printed without `--json`, and an object
 //! (`specs/Objects.antt`), both of the same values. [`Telling`] puts the objects one after another,
