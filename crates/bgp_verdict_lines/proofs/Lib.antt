@@ -1,0 +1,3 @@
+pub mod SameTexts
+pub mod Tellers
+mod ItemValues
