@@ -1,11 +1,16 @@
 -- The texts of lines are those of bgp_why and bgp_tool.
-use Rattle.std.proofs.Common.{◌≡◌, ◌∙◌, ◌++◌, ◌/◌, ◌==◌, ◌&&◌, ℕ, Bool, true, false, not, List, [], ◌∷◌, Option, None, Some, ap, append-nil, append_assoc, codes, if◌then◌else◌, map, refl, sym}
+use Rattle.std.proofs.Common.{◌≡◌, ◌∙◌, ◌++◌, ◌/◌, ◌==◌, ◌&&◌, ◌+◌, ℕ, Bool, true, false, not, List, [], ◌∷◌, Option, None, Some, ap, append-nil, append_assoc, codes, if◌then◌else◌, map, refl, sym}
 use Rattle.std.proofs.lemmas.Grind.{flat_map-append}
 use Rattle.std.specs.Bool.{then_some}
 use Rattle.std.specs.List.{flat_map}
+use Rattle.std.specs.Fmt.{decimal}
 use Rattle.bgp_prefix.specs.Text.{address_text}
 use Rattle.bgp_prefix.specs.declared.address.Address.{Address}
 use Rattle.bgp_machine.specs.Run.{End}
+use Rattle.bgp_judge.specs.Ends.{end_value}
+use Rattle.bgp_judge.specs.Verdict.{verdict_value}
+use Rattle.bgp_judge.specs.declared.verdict.Verdict.{Verdict}
+use Rattle.bgp_judge.specs.declared.verdict.Verdict.TheVariants as verdicts
 use Rattle.bgp_machine.specs.State.{number_of}
 use Rattle.bgp_machine.specs.declared.fsm.Fsm.{Fsm}
 use Rattle.bgp_names.specs.States.{state_name}
@@ -13,7 +18,7 @@ use Rattle.bgp_open.specs.declared.route_offer.RouteOffer.{RouteOffer}
 use Rattle.bgp_path.specs.Path.{PathValue}
 use Rattle.bgp_update.specs.declared.destination.Destination.{Destination}
 use Rattle.bgp_clock.specs.When.{clock_text, when_text}
-use Rattle.bgp_tool.specs.VerdictText.{end_text, families_text, route_line, state_text}
+use Rattle.bgp_tool.specs.VerdictText.{end_text, families_text, no_line, route_line, state_text, verdict_text}
 use Rattle.bgp_why_parts.specs.Codes.{full_code_text}
 use Rattle.bgp_why.specs.Items.{all_items, first_word, those_possible}
 use Rattle.bgp_why.specs.NoteLines.{note_line, note_lines, note_said, shown_notes, without_line, without_note}
@@ -33,7 +38,7 @@ use Rattle.bgp_why.specs.declared.state.SentAlready.{SentAlready}
 use Rattle.bgp_why.specs.declared.style.Style.{Style}
 use Rattle.bgp_reason.specs.declared.kinds.Possible as reason
 use Rattle.bgp_json_verdicts.specs.At.{at_if, at_of, at_text}
-use Rattle.bgp_json_verdicts.specs.Lines.{LastReceived, Reasons, SentAlready as Already, TheRecord, TheState, end_lines, item_values, item_word, line_text, note_values, possible_values, reason_text, route_value, since_text}
+use Rattle.bgp_json_verdicts.specs.Lines.{LastReceived, Reasons, SentAlready as Already, TheRecord, TheState, end_lines, item_values, item_word, line_text, note_values, possible_values, reason_text, route_value, since_text, verdict_lines}
 
 -- ---- places
 
@@ -145,3 +150,11 @@ ends_same (e ∷ ends) =
     flat_map-append line_text (end_lines e) (flat_map end_lines ends)
     ∙ ap (λ (t : List ℕ). t ++ flat_map line_text (flat_map end_lines ends)) (end_same e)
     ∙ ap (λ (t : List ℕ). end_text e ++ t) (ends_same ends)
+
+-- ---- verdicts
+
+pub verdict_same : {X : Type 0} (verdict : Verdict X) → flat_map line_text (verdict_lines (verdict_value verdict)) ≡ verdict_text verdict
+unfolding line_text no_line
+verdict_same (verdicts.Yes ends) = ap (λ (t : List ℕ). codes "yes\n" ++ t) (ends_same (map end_value ends.items))
+verdict_same (verdicts.No count) = append-nil (codes "no at record " ++ (decimal (count + 1) ++ codes "\n"))
+verdict_same verdicts.Unfinished = refl

@@ -11,7 +11,7 @@
 //! let mut lines = VerdictLines::new(form, alloc, sink);
 //! let status = put_answer(&mut lines, &answer);
 //! put_state(&mut lines, &style, told.state, since);
-//! let status = lines.hand_over(status);
+//! let status = lines.finish(status);
 //! ```
 #![tactic(auto)]
 

@@ -1,11 +1,12 @@
 //! The lines of a reason, but for that of the impossible record.
 
 ghost use Rattle.std.specs.Prelude.{◌≡◌, ℕ, List, map, take};
+ghost use Rattle.bgp_text.specs.Lines.{Writes};
 ghost use Rattle.bgp_why.specs.Applying.{last_update_line};
 ghost use Rattle.bgp_why.specs.Asked.{last_received_line};
 ghost use Rattle.bgp_why.specs.MessageLine.{data_line, message_line};
 ghost use Rattle.bgp_why.specs.NoteLines.{note_lines};
-ghost use Rattle.bgp_why.specs.NotWhole.{not_whole_line};
+ghost use Rattle.bgp_why.specs.NotWhole.{not_whole_line, unfit_line};
 ghost use Rattle.bgp_why.specs.Possible.{possible_but_lines, possible_lines};
 ghost use Rattle.bgp_why.specs.State.{already_line, another_as_line, state_line};
 ghost use Rattle.bgp_verdict_lines.specs.Lines.{PutsLines};
@@ -19,7 +20,10 @@ use crate::verdict_lines::VerdictLines;
 use bgp_json_verdicts::{At, ReasonLine, VerdictLine};
 use bgp_machine::Fsm;
 use bgp_reason::Possible;
-use bgp_why::{Asked, AskedUpdate, Lacks, MessageName, NotWhole, Notes, Place, SentAlready, Style};
+use bgp_text::Lines;
+use bgp_why::{
+    Asked, AskedUpdate, Lacks, MessageName, NotWhole, Notes, Place, SentAlready, Style, unfit_text,
+};
 use mrt::Sink;
 use std::alloc::{AllocError, Allocator, Global};
 
@@ -62,22 +66,41 @@ pub fn put_data_line<A: Allocator + Copy, W: Sink>(lines: &mut VerdictLines<'_, 
     }
 }
 
-/// Puts why a message is no whole one, if it isn't.
+/// Puts why a message is no whole one, as text.
+fn put_unfit_text<W: Sink>(lines: &mut Lines<'_, W>, why: NotWhole)
+    ensures { Writes lines.old lines.new (unfit_line why) }
+{
+    lines.put(b"  not a whole message: ");
+    lines.put(unfit_text(why).as_bytes());
+    lines.put(b"\n");
+}
+
+/// Puts why a message is no whole one.
+fn put_unfit<A: Allocator + Copy, W: Sink>(lines: &mut VerdictLines<'_, A, W>, why: NotWhole)
+    ensures { PutsLines lines.old lines.new (unfit_line why) }
+{
+    match &mut lines.teller {
+        VerdictTeller::Text => put_unfit_text(&mut lines.lines, why),
+        VerdictTeller::Json(telling) => {
+            let line = VerdictLine::Reason(ReasonLine::NotWhole(why));
+            telling.put(&mut lines.lines, lines.alloc, &line);
+        }
+    }
+}
+
+/// Puts why a message is no whole one, if its octets don't fit. The message's name has the faults of
+/// a header.
 pub fn put_not_whole<A: Allocator + Copy, W: Sink>(
     lines: &mut VerdictLines<'_, A, W>,
     why: Option<NotWhole>,
 )
     ensures { PutsLines lines.old lines.new (not_whole_line why) }
 {
-    let Some(why) = why else {
-        return;
-    };
-    match &mut lines.teller {
-        VerdictTeller::Text => bgp_why::put_not_whole(&mut lines.lines, Some(why)),
-        VerdictTeller::Json(telling) => {
-            let line = VerdictLine::Reason(ReasonLine::NotWhole(why));
-            telling.put(&mut lines.lines, lines.alloc, &line);
-        }
+    match why {
+        None => {}
+        Some(NotWhole::Faulty(_)) => {}
+        Some(NotWhole::BelowHeader) => put_unfit(lines, NotWhole::BelowHeader),
+        Some(NotWhole::OtherCount) => put_unfit(lines, NotWhole::OtherCount),
     }
 }
 

@@ -1,6 +1,6 @@
 //! Lines of verdicts on their way to a sink.
 
-ghost use Rattle.std.specs.Prelude.{◌≡◌, ◌<◌, ◌⊎◌, [], IsFalse, IsTrue};
+ghost use Rattle.std.specs.Prelude.{◌≡◌, ◌<◌, ◌⊎◌, [], IsFalse, IsTrue, OnErr, OnOk};
 ghost use Rattle.bgp_text.specs.Lines.{Writes};
 ghost use Rattle.bgp_tool.specs.Status.{code_of};
 ghost use Rattle.bgp_verdict_lines.specs.Teller.{Starts, teller_status};
@@ -9,7 +9,7 @@ use crate::form::VerdictForm;
 use crate::teller::VerdictTeller;
 use bgp_text::Lines;
 use bgp_tool::{Status, hand_over};
-use mrt::Sink;
+use mrt::{Failed, Sink};
 use std::alloc::Allocator;
 
 /// Lines of verdicts on their way to a sink, in one form.
@@ -45,9 +45,20 @@ impl<'a, A: Allocator + Copy, W: Sink> VerdictLines<'a, A, W> {
         self.lines.into_sink()
     }
 
+    /// Hands over the lines, and tells whether the sink has taken all of them.
+    pub fn hand_over(&mut self) -> Result<(), Failed>
+        ensures teller { self.new.teller ≡ self.old.teller }
+        ensures writes { Writes self.old.lines self.new.lines [] }
+        ensures none { self.new.lines.held.items ≡ [] }
+        ensures ok { OnOk result (IsFalse self.new.lines.outlet.has_failed) }
+        ensures err { OnErr result (IsTrue self.new.lines.outlet.has_failed) }
+    {
+        self.lines.hand_over()
+    }
+
     /// Hands over the lines, and returns the exit status of what has this one, or that of memory if
     /// it was refused for an object, or that of a device if the sink failed.
-    pub fn hand_over(&mut self, status: Status) -> Status
+    pub fn finish(&mut self, status: Status) -> Status
         ensures writes { Writes self.old.lines self.new.lines [] }
         ensures none { self.new.lines.held.items ≡ [] }
         ensures told { (IsFalse self.new.lines.outlet.has_failed

@@ -1,5 +1,5 @@
 use Rattle.bgp_text.proofs.Pieces.{Joins, and_then}
-use Rattle.bgp_explain.proofs.skipped.put_first.Goals as goal
+use Rattle.bgp_verdict_lines.proofs.totals.put_first_text.Goals as goal
 
 pub returns-in-Some : goal.returns-in-Some
 returns-in-Some g c =
