@@ -1,9 +1,9 @@
 -- What is written of lines that are put from the start.
-use Rattle.std.proofs.Common.{◌≡◌, ◌∙◌, ◌⊎◌, ◌≤◌, ◌<◌, ℕ, Bool, true, false, List, [], IsTrue, IsFalse, arith, if◌then◌else◌, inl, inr}
+use Rattle.std.proofs.Common.{◌≡◌, ◌∙◌, ◌⊎◌, ◌≤◌, ◌<◌, ℕ, Bool, true, false, List, [], IsTrue, IsFalse, arith, if◌then◌else◌, inl, inr, subst, sym}
 use Rattle.mrt.specs.declared.sink.Sink as sinks
 use Rattle.bgp_text.specs.Lines.{Writes}
 use Rattle.bgp_text.specs.declared.lines.Lines.{Lines}
-use Rattle.bgp_text.proofs.Fresh.{IsFresh}
+use Rattle.bgp_text.proofs.Fresh.{IsFresh, all_taken}
 use Rattle.bgp_text.proofs.Pieces.{Joins, and_nothing}
 use Rattle.bgp_tool.specs.Answer.{IsWritten}
 use Rattle.bgp_tool.proofs.CaptureJudged.{is_written}
@@ -90,3 +90,11 @@ pub viewed_in : {V W : Type 0} (view : V → W) (takes : W → W → List ℕ �
     → IsWrittenIn form takes failures text code (view old) (view new) status
 viewed_in view takes failures forms.Text wrote = seen_as view takes failures wrote
 viewed_in view takes failures forms.Json (printed, told, is, wrote) = (printed, told, is, seen_as view takes failures wrote)
+
+-- ---- what a sink took of fresh lines
+
+pub took_all : {W : Type 0} {sink : sinks.Ghosts W} (lines lines' : Lines W sink) (first last : W) (text : List ℕ) → IsFresh lines → lines.outlet.sink.now ≡ first → last ≡ lines'.outlet.sink.now
+    → Writes lines lines' text → lines'.held.items ≡ [] → IsFalse lines'.outlet.has_failed → sink.takes first last text
+took_all {W} {sink} lines lines' first last text fresh begins ends wrote none calm =
+    subst (λ (t : List ℕ). sink.takes first last t) (sym (all_taken lines lines' text fresh wrote none calm))
+    (subst (λ (w : W). sink.takes w last wrote.taken) begins (subst (λ (w : W). sink.takes lines.outlet.sink.now w wrote.taken) (sym ends) wrote.took))

@@ -1,6 +1,6 @@
 //! The line of the impossible record.
 
-ghost use Rattle.std.specs.Prelude.{◌≡◌, ◌++◌, ℕ, List, Option, IfOk};
+ghost use Rattle.std.specs.Prelude.{◌≡◌, ◌<◌, ◌++◌, ℕ, List, Option, IfOk, OnOk};
 ghost use Rattle.mrt.specs.Reader.{shown_of};
 ghost use Rattle.mrt.specs.Written.{IsAllowed};
 ghost use Rattle.bgp_why.specs.Deed.{IsDeed, cause_text, form_on, peer_of, record_line};
@@ -8,7 +8,6 @@ ghost use Rattle.bgp_json_verdicts.specs.Telling.{TellsText};
 ghost use Rattle.bgp_verdict_lines.specs.Lines.{PutsLines};
 
 use crate::teller::VerdictTeller;
-use crate::texts::taken;
 use crate::verdict_lines::VerdictLines;
 use bgp_json_verdicts::{ReasonLine, Telling, VerdictLine};
 use bgp_open::{Link, RouteForm};
@@ -16,7 +15,7 @@ use bgp_prefix::Session;
 use bgp_reason::Possible;
 use bgp_text::Lines;
 use bgp_why::{Endpoint, Lacks, Place, Style, put_cause, put_deed};
-use mrt::{MemSink, Record, Sink};
+use mrt::{Failed, MemSink, Record, Sink};
 use std::alloc::{AllocError, Allocator};
 
 /// Returns how the routes of a record are spelled, if this link is settled: in the form of the
@@ -44,6 +43,33 @@ fn peer_of(session: &Session) -> Endpoint
     }
 }
 
+/// Writes what a record that a capture of the session may have shows was done, and what is wrong
+/// with it.
+fn write_deed<W: Sink, A: Allocator>(
+    sink: &mut W,
+    style: &Style,
+    session: &Session,
+    form: RouteForm,
+    shown: &Record<'_>,
+    possible: &Possible,
+    lacks: &Lacks<'_, A>,
+) -> Result<(), Failed>
+    requires failures { W.failures sink.old < u64.MAX }
+    requires can { (last : Option ℕ) × IsAllowed session.now last (shown_of shown.now) }
+    ensures { (deed : List ℕ)
+        × IsDeed session.now (peer_of session.now) form (shown_of shown.now) deed
+        × OnOk result (W.takes sink.old sink.new
+        (deed ++ cause_text style.now.own_faults possible.now lacks.now)) }
+{
+    let mut lines = Lines::new(sink);
+    put_deed(&mut lines, session, &peer_of(session), form, shown);
+    put_cause(&mut lines, style, possible, lacks);
+    let handed_over = lines.hand_over();
+    // No effect: it ends the loan of the sink.
+    lines.into_sink();
+    handed_over
+}
+
 /// Returns what a record that a capture of the session may have shows was done, and what is wrong
 /// with it.
 fn deed_text<A: Allocator, B: Allocator>(
@@ -62,13 +88,10 @@ fn deed_text<A: Allocator, B: Allocator>(
         ≡ deed ++ cause_text style.now.own_faults possible.now lacks.now) }
 {
     let mut sink = MemSink::new(alloc);
-    let mut lines = Lines::new(&mut sink);
-    put_deed(&mut lines, session, &peer_of(session), form, shown);
-    put_cause(&mut lines, style, possible, lacks);
-    let handed = lines.hand_over();
-    // No effect: it ends the loan of the sink.
-    lines.into_sink();
-    taken(sink, handed)
+    match write_deed(&mut sink, style, session, form, shown, possible, lacks) {
+        Ok(()) => Ok(sink.into_octets()),
+        Err(Failed) => Err(AllocError),
+    }
 }
 
 /// Puts the object of the impossible record, whose line says this.
