@@ -98,7 +98,7 @@ module _ (reason : HasOneReason) (config : Config) (octets : List ℕ) (entries 
       → IsMoreOf WithReason config entries others verdict found more → IsMoreOf WithReason config also beside judged found other → AreOfOneOrder found others beside
       → more ≢ no_memory_line → other ≢ no_memory_line → more ≡ other
   one_of others beside verdict judged Nothing more other is h k of some there = one_more verdict judged more other is h k some there
-  one_of others beside verdict judged (ByNone u) more other is h k of some there = one_more verdict judged more other is h k some there
+  one_of others beside verdict judged (ByNone u instead) more other is h k of some there = one_more verdict judged more other is h k some there
   one_of others beside verdict judged (ByAnother ends) more other is h k of some there =
       h ∙ sym (subst (λ (es : List Entry). IsMore WithReason config es (Yes ends) other) (sym of) k)
   one_of others beside verdict judged ByAll more other is h k of some there = one_more verdict judged more other is h k some there

@@ -27,7 +27,7 @@ pub found_so : {X : Type 0} (config : Config) (wanted : Import) (packets : List 
     → IsFoundOver config wanted.within (framings_of wanted.selection.session) connection (entries_of searched) (found_of searched)
     → IsFound config wanted packets segments number verdict (entries_of searched) (found_of searched)
 found_so config wanted packets segments number connection verdict searches.Nothing answered other sought over = tt
-found_so config wanted packets segments number connection verdict (searches.NoOrder u) answered other sought over =
+found_so config wanted packets segments number connection verdict (searches.NoOrder u instead) answered other sought over =
     (sought, record { connection = connection; chosen = answered; over_all = over })
 found_so config wanted packets segments number connection verdict (searches.Another another) answered other sought over =
     (other, record { connection = connection; chosen = answered; yes = over })
