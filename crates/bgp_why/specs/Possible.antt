@@ -52,12 +52,16 @@ other_item_lines first (item ∷ items) =
     item_line first (λ item. []) (codes "or: in another order, ") item
     ++ other_item_lines first items
 
+-- it isn't known what could have been
+abbrev pub unknown_line : List ℕ
+unknown_line =
+    codes "  or: perhaps more in another order (too many to try, or out of memory)\n"
+
 -- what could have been sent in other orders, and isn't among those that may stand in the record's
 -- place by the records before it
 abbrev pub other_lines : ℕ → Possible → OtherOrders → List ℕ
 other_lines first p Unasked = []
-other_lines first p Unknown =
-    codes "  or: perhaps more in another order (too many to try, or out of memory)\n"
+other_lines first p Unknown = unknown_line
 other_lines first p (Known others) =
     other_item_lines first (those_possible (all_items (besides p others)))
 
