@@ -119,13 +119,18 @@ fn instead_of<A: Allocator + Copy>(
     ensures { IsClocked connection.now → AreInsteadOver report config.now within framings
         connection.now before made.now (verdict_value verdict.now) result }
 {
-    let (Report::WithReason, Verdict::No(count)) = (report, verdict) else {
-        return OtherOrders::Unasked;
-    };
-    let count = *count as usize;
-    other_orders(
-        alloc, config, connection, framings, within, before, made, count,
-    )
+    match report {
+        Report::VerdictAlone => OtherOrders::Unasked,
+        Report::WithReason => match verdict {
+            Verdict::Yes(_) | Verdict::Unfinished => OtherOrders::Unasked,
+            Verdict::No(count) => {
+                let count = *count as usize;
+                other_orders(
+                    alloc, config, connection, framings, within, before, made, count,
+                )
+            }
+        },
+    }
 }
 
 /// Returns what is found over all orders of the connection's messages, if this is the verdict on the
