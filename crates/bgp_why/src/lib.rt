@@ -46,7 +46,7 @@ pub use deed::{put_deed, put_record_line};
 pub use endpoint::{Endpoint, put_endpoint};
 pub use items::{ITEMS, Item, put_item};
 pub use lacks::{Lacks, put_but};
-pub use laws::lines_tell_all_that_may_follow;
+pub use laws::{lines_tell_all_that_may_follow, other_orders_tell_the_rest};
 pub use message::{MessageName, put_name};
 pub use message_line::{put_data_line, put_message_line};
 pub use note_lines::{NOTES, Note, put_note_text, put_notes, shown_notes};
