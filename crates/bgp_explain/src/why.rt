@@ -1,7 +1,8 @@
 //! Why the next record is impossible, or what may follow: the lines after the one of that record.
 
-ghost use Rattle.std.specs.Prelude.{◌≡◌, ℕ, List};
+ghost use Rattle.std.specs.Prelude.{◌≡◌, ◌++◌, ℕ, List};
 ghost use Rattle.bgp_verdict_lines.specs.Lines.{PutsLines};
+ghost use Rattle.bgp_why.specs.Possible.{other_lines};
 ghost use Rattle.bgp_explain.specs.Details.{AreDetails, asking_in, next_in};
 ghost use Rattle.bgp_explain.specs.Kept.{shown_by};
 ghost use Rattle.bgp_explain.specs.Lacked.{following_lines, lacked_of};
@@ -213,7 +214,8 @@ fn put_received<W: Sink, A: Allocator + Copy>(
     }
 }
 
-/// Puts the lines of what may stand in the impossible record's place, and what this lacks of it.
+/// Puts the lines of what may stand in the impossible record's place, and what this lacks of it;
+/// and of what could have been sent there in other orders.
 fn put_following<W: Sink, A: Allocator + Copy>(
     lines: &mut VerdictLines<'_, A, W>,
     style: &Style,
@@ -221,7 +223,8 @@ fn put_following<W: Sink, A: Allocator + Copy>(
     lacks: &Lacks<'_, A>,
 )
     ensures { PutsLines lines.old lines.new
-        (following_lines style.now possible.now (lacked_of lacks.now)) }
+        (following_lines style.now possible.now (lacked_of lacks.now)
+        ++ other_lines style.now.first possible.now style.now.other_orders) }
 {
     put_possible_but(lines, style, possible, lacks);
 }

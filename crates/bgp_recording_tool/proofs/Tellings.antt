@@ -33,7 +33,7 @@ module _ {X T : Type 0} {sink : sinks.Ghosts T} (config : Config) (report : Repo
       → IsReported config report wanted packets segments number named verdict found more remarks
       → IsTold config report wanted packets segments number named (told_with verdict found more) remarks
   reported_so verdict Nothing more remarks reported = reported
-  reported_so verdict (ByNone u) more remarks reported = (verdict, reported)
+  reported_so verdict (ByNone u instead) more remarks reported = (verdict, instead, reported)
   reported_so verdict (ByAnother ends) more remarks reported = (verdict, reported)
   reported_so verdict ByAll more remarks reported = (verdict, reported)
 
@@ -63,6 +63,7 @@ module _ {X T : Type 0} {sink : sinks.Ghosts T} (config : Config) (report : Repo
           remarked = puts.added.is_told;
         };
         is_more = puts.is_more;
+        instead = puts.instead;
       } in
       record {
         text = told_text (told_with puts.verdict puts.found puts.more);

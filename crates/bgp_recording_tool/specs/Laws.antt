@@ -46,7 +46,7 @@ RecordingsAreExplainedAsJudged =
 -- these are the entries of one order, if what is found is the yes of another than the made one
 abbrev pub AreOfOneOrder : Found → List Entry → List Entry → Type 0
 AreOfOneOrder Nothing entries others = Unit {0}
-AreOfOneOrder (ByNone u) entries others = Unit {0}
+AreOfOneOrder (ByNone u instead) entries others = Unit {0}
 AreOfOneOrder (ByAnother ends) entries others = entries ≡ others
 AreOfOneOrder ByAll entries others = Unit {0}
 

@@ -16,7 +16,7 @@ use Rattle.bgp_explain.specs.LeftOut.{JudgesWithout}
 use Rattle.bgp_explain.specs.declared.left_out.LeftOut.{LeftOut}
 use Rattle.bgp_explain.specs.declared.report.Report.{Report}
 use Rattle.bgp_recording_tool.specs.declared.remark.Remark.{Remark}
-use Rattle.bgp_recording_tool.specs.Connections.{IsFound, IsMoreOf}
+use Rattle.bgp_recording_tool.specs.Connections.{IsFound, IsInstead, IsMoreOf}
 use Rattle.bgp_recording_tool.specs.Found.{Found}
 use Rattle.bgp_recording_tool.specs.Remarks.{AddsTold, AreRemarks}
 use Rattle.bgp_recording_tool.specs.Told.{told_status, told_text, told_with}
@@ -35,6 +35,7 @@ pub record PutsReport {X T : Type 0} {sink : sinks.Ghosts T} (config : Config) (
   pub is : HasVerdict config (records_of entries) verdict
   pub is_found : IsFound config wanted packets segments number verdict others found
   pub is_more : IsMoreOf report config entries others verdict found more
+  pub instead : IsInstead config wanted packets segments report number entries verdict found
   pub wrote : PutsLines lines lines' (told_text (told_with verdict found more))
   pub confederation : Bool
   pub shows : IsTrue confederation ↔ SomeShowConfederations (records_of entries)

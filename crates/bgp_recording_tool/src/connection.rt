@@ -25,6 +25,7 @@ ghost use Rattle.bgp_explain.specs.Records.{AreExplained, CanBeShown, SaysOrNot}
 ghost use Rattle.bgp_explain.specs.Text.{CanBePutOf};
 ghost use Rattle.bgp_recording_tool.specs.Connections.{IsMore, IsMoreOf, IsToldAs};
 ghost use Rattle.bgp_recording_tool.specs.Connections.{made_style};
+ghost use Rattle.bgp_why.specs.declared.other_orders.OtherOrders.TheVariants.{Unasked};
 ghost use Rattle.bgp_recording_tool.specs.Found.{IsNo, IsSought, entries_of, found_of};
 ghost use Rattle.bgp_recording_tool.specs.Judging.{Puts};
 ghost use Rattle.bgp_recording_tool.specs.Options.{IsOneFamily};
@@ -47,7 +48,7 @@ use bgp_prefix::{RouteRefresh, Seconds, Session};
 use bgp_recording::{Entry, Recording};
 use bgp_tool::Status;
 use bgp_verdict_lines::{VerdictLines, put_no_order, put_refusal, put_unfinished, put_verdict};
-use bgp_why::Style;
+use bgp_why::{OtherOrders, Style};
 use mrt::{Record, Sink};
 use std::alloc::{AllocError, Allocator};
 
@@ -89,26 +90,30 @@ fn first_second_of(entries: &[Entry<'_>]) -> Seconds
     }
 }
 
-/// Puts what explains the verdict on the records of these entries, or that memory was refused for
-/// the reason.
+/// Puts what explains the verdict on the records of these entries, with what is said of other
+/// orders, or that memory was refused for the reason.
 fn put_reason<A: Allocator + Copy, W: Sink>(
     lines: &mut VerdictLines<'_, A, W>,
     alloc: A,
     config: &Config,
     entries: &[Entry<'_>],
     explained: &ExplainedRecords<A>,
+    instead: OtherOrders,
 )
     requires explained { AreExplained config.now (captured.records_of entries.now) explained.now }
     requires can { CanBePutOf config.now.parts.session explained.now.reason }
     ensures { (more : List ℕ)
-        × SaysOrNot config.now (made_style entries.now) config.now.parts.session
+        × SaysOrNot config.now (made_style entries.now instead) config.now.parts.session
         (shown_places entries.now) (captured.records_of entries.now)
         (verdict_value explained.now.verdict) more
         × PutsLines lines.old lines.new more }
 {
     let (session, places) = (&config.parts.session, Places::Shown(entries));
     let details = explained.details(alloc, config);
-    let style = Style::plain(first_second_of(entries), true);
+    let style = Style {
+        other_orders: instead,
+        ..Style::plain(first_second_of(entries), true)
+    };
     put_explained_records(lines, config, &style, session, places, explained, &details);
 }
 
@@ -120,16 +125,17 @@ fn put_more<A: Allocator + Copy, W: Sink>(
     report: Report,
     entries: &[Entry<'_>],
     explained: &ExplainedRecords<A>,
+    instead: OtherOrders,
 )
     requires explained { AreExplained config.now (captured.records_of entries.now) explained.now }
     requires can { CanBePutOf config.now.parts.session explained.now.reason }
     ensures { (more : List ℕ)
-        × IsMore report config.now entries.now (verdict_value explained.now.verdict) more
+        × IsMore report config.now entries.now instead (verdict_value explained.now.verdict) more
         × PutsLines lines.old lines.new more }
 {
     match report {
         Report::VerdictAlone => {}
-        Report::WithReason => put_reason(lines, alloc, config, entries, explained),
+        Report::WithReason => put_reason(lines, alloc, config, entries, explained, instead),
     }
 }
 
@@ -159,19 +165,20 @@ fn put_report<A: Allocator + Copy, W: Sink>(
     entries: &[Entry<'_>],
     explained: &ExplainedRecords<A>,
     unexplained: Option<Unexplained>,
+    instead: OtherOrders,
 ) -> Status
     requires explained { AreExplained config.now (captured.records_of entries.now) explained.now }
     requires can { CanBePutOf config.now.parts.session explained.now.reason }
     requires is_no { IfSome unexplained (λ u. IsNo (verdict_value explained.now.verdict)) }
     ensures { (more : List ℕ)
-        × IsMore report config.now entries.now (verdict_value explained.now.verdict) more
+        × IsMore report config.now entries.now instead (verdict_value explained.now.verdict) more
         × PutsLines lines.old lines.new (told_text
         (told_of (verdict_value explained.now.verdict) unexplained more))
         × (code_of result
         ≡ told_status (told_of (verdict_value explained.now.verdict) unexplained more)) }
 {
     put_answer(lines, &explained.verdict, unexplained);
-    put_more(lines, alloc, config, report, entries, explained);
+    put_more(lines, alloc, config, report, entries, explained, instead);
     verdict_status(&explained.verdict)
 }
 
@@ -188,12 +195,13 @@ fn put_over_all<A: Allocator + Copy, W: Sink>(
     requires explained { AreExplained config.now (captured.records_of entries.now) explained.now }
     requires can { CanBePutOf config.now.parts.session explained.now.reason }
     ensures put { (more : List ℕ)
-        × IsMore report config.now entries.now (verdict_value explained.now.verdict) more
+        × IsMore report config.now entries.now Unasked (verdict_value explained.now.verdict) more
         × PutsLines lines.old lines.new (told_text (UnfinishedOverAll more)) }
     ensures status { code_of result ≡ 2 }
 {
     put_unfinished(lines);
-    put_more(lines, alloc, config, report, entries, explained);
+    let instead = OtherOrders::Unasked;
+    put_more(lines, alloc, config, report, entries, explained, instead);
     Status::Unfinished
 }
 
@@ -220,8 +228,13 @@ fn put_searched<A: Allocator + Copy, W: Sink>(
         (told_with (verdict_value explained.now.verdict) (found_of searched.now) more)) }
 {
     match searched {
-        Searched::Nothing => put_report(lines, alloc, config, report, entries, explained, None),
-        Searched::NoOrder(unexplained) => {
+        Searched::Nothing => {
+            let instead = OtherOrders::Unasked;
+            put_report(
+                lines, alloc, config, report, entries, explained, None, instead,
+            )
+        }
+        Searched::NoOrder(unexplained, instead) => {
             let unexplained = Some(*unexplained);
             put_report(
                 lines,
@@ -231,6 +244,7 @@ fn put_searched<A: Allocator + Copy, W: Sink>(
                 entries,
                 explained,
                 unexplained,
+                *instead,
             )
         }
         Searched::Unfinished => put_over_all(lines, alloc, config, report, entries, explained),
@@ -244,6 +258,7 @@ fn put_searched<A: Allocator + Copy, W: Sink>(
                 entries,
                 &another.explained,
                 None,
+                OtherOrders::Unasked,
             )
         }
     }
@@ -283,7 +298,9 @@ fn report_made<A: Allocator + Copy, T: Tracker<A>, W: Sink>(
     let entries = made.entries.as_slice();
     let explained = explain_records::<A, T>(alloc, config, &made.records)?;
     let verdict = &explained.verdict;
-    let searched = search_orders::<A, T>(alloc, config, import, gathered, number, verdict);
+    let searched = search_orders::<A, T>(
+        alloc, config, report, import, gathered, number, entries, verdict,
+    );
     let confederation = some_show_confederations(&made.records);
     add_remarks_on(
         remarks,

@@ -23,7 +23,10 @@ use Rattle.bgp_why_parts.specs.Codes.{full_code_text}
 use Rattle.bgp_why.specs.Items.{all_items, first_word, those_possible}
 use Rattle.bgp_why.specs.NoteLines.{note_line, note_lines, note_said, shown_notes, without_line, without_note}
 use Rattle.bgp_why.specs.Place.{place_at, place_text, record_text}
-use Rattle.bgp_why.specs.Possible.{item_line, item_lines, possible_shown, shown_lines}
+use Rattle.bgp_why.specs.OtherOrders.{besides}
+use Rattle.bgp_why.specs.Possible.{item_line, item_lines, other_item_lines, other_lines, possible_shown, shown_lines}
+use Rattle.bgp_why.specs.declared.other_orders.OtherOrders.{OtherOrders}
+use Rattle.bgp_why.specs.declared.other_orders.OtherOrders.TheVariants as others
 use Rattle.bgp_why.specs.State.{sent_line, since_text as why_since, state_line}
 use Rattle.bgp_why.specs.Deed.{record_line}
 use Rattle.bgp_why.specs.Asked.{received_text}
@@ -38,7 +41,7 @@ use Rattle.bgp_why.specs.declared.state.SentAlready.{SentAlready}
 use Rattle.bgp_why.specs.declared.style.Style.{Style}
 use Rattle.bgp_reason.specs.declared.kinds.Possible as reason
 use Rattle.bgp_json_verdicts.specs.At.{at_if, at_of, at_text}
-use Rattle.bgp_json_verdicts.specs.Lines.{LastReceived, Reasons, SentAlready as Already, TheRecord, TheState, end_lines, item_values, item_word, line_text, note_values, possible_values, reason_text, route_value, since_text, verdict_lines}
+use Rattle.bgp_json_verdicts.specs.Lines.{LastReceived, Reasons, SentAlready as Already, TheRecord, TheState, end_lines, item_values, item_word, line_text, note_values, possible_values, reason_text, route_value, since_text, other_item_values, other_values, verdict_lines}
 
 -- ---- places
 
@@ -98,6 +101,20 @@ possible_same style is_next but p =
     let items = those_possible (all_items (possible_shown style.is_recording p)) in
     items_same (not p.message) is_next true style.first but items
     ∙ ap (λ (b : Bool). item_lines style.first but (first_word b is_next) items) (twice p.message)
+
+-- ---- other orders
+
+other_items_same : (first : ℕ) (items : List Item) → flat_map line_text (other_item_values first items) ≡ other_item_lines first items
+unfolding line_text reason_text item_line
+other_items_same first [] = refl
+other_items_same first (item ∷ items) =
+    ap (λ (t : List ℕ). item_line first (λ i. []) (codes "or: in another order, ") item ++ t) (other_items_same first items)
+
+pub others_same : (first : ℕ) (p : reason.Possible) (orders : OtherOrders) → flat_map line_text (other_values first p orders) ≡ other_lines first p orders
+unfolding line_text reason_text
+others_same first p others.Unasked = refl
+others_same first p others.Unknown = refl
+others_same first p (others.Known those) = other_items_same first (those_possible (all_items (besides p those)))
 
 -- ---- notes
 

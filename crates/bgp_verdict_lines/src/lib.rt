@@ -19,6 +19,7 @@ mod answers;
 mod deed;
 mod form;
 mod notes;
+mod others;
 mod possible;
 mod reasons;
 mod received;

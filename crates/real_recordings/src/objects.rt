@@ -17,6 +17,9 @@ use std::io;
 /// Origins by their names.
 static ORIGINS: [(&str, &str); 3] = [("IGP", "0"), ("EGP", "1"), ("INCOMPLETE", "2")];
 
+/// What is said if it isn't known what other orders allow.
+const UNKNOWN: &str = "  or: perhaps more in another order (too many to try, or out of memory)";
+
 /// Lists that a route may have.
 static LISTS: [&str; 3] = ["communities", "extended", "large"];
 
@@ -316,6 +319,10 @@ fn put_line(text: &mut String, alloc: Global, object: &Value<'_>) -> io::Result<
         "state" => put_state(text, alloc, object)?,
         "last_received" => put_received(text, alloc, object)?,
         "possible" => put_item(text, object)?,
+        "possible_in_another_order" => {
+            put_text_at(text, "  or: in another order, ", object, "item")?;
+        }
+        "other_orders_unknown" => text.push_str(UNKNOWN)?,
         "sent_already" => put_sent(text, alloc, object)?,
         "note" => put_text_at(text, "  note: ", object, "text")?,
         "records" => put_records(text, object)?,

@@ -1,6 +1,6 @@
 use Rattle.std.proofs.Common.{◌≡◌, ◌≤◌, ◌+◌, count_by, drop}
-use Rattle.bgp_check_tool.specs.Place.{sends}
-use Rattle.bgp_check_tool.proofs.place.count_sent.Given as goal
+use Rattle.bgp_instead.specs.MessageAt.{sends}
+use Rattle.bgp_instead.proofs.message_at.count_sent.Given as goal
 
 -- those so far and those that are left are all
 abbrev pub invariant-loop-entry : goal.invariant-loop-entry
