@@ -5,7 +5,7 @@ use Rattle.std.proofs.Math.Seq.{drop-cons}
 use Rattle.bgp_why.specs.declared.items.Item.{Item}
 use Rattle.bgp_why.specs.declared.note_lines.Note.{Note}
 use Rattle.bgp_why.specs.Items.{those_possible}
-use Rattle.bgp_json_verdicts.specs.Lines.{LineValue, item_values, note_values, still_first}
+use Rattle.bgp_json_verdicts.specs.Lines.{LineValue, item_values, note_values, other_item_values, still_first}
 
 -- ---- items
 
@@ -62,3 +62,31 @@ no_note told whole notes i past so_far =
     sym (append-nil told)
     ∙ ap (λ (left : List (Option Note)). told ++ note_values left) (sym (drop_of_length-le notes past))
     ∙ so_far
+
+-- ---- other orders
+
+module _ (first : ℕ) where
+  abbrev others : List (Option Item) → List LineValue
+  others items = other_item_values first (those_possible items)
+
+  other_by_other : (item : Option Item) (items : List (Option Item)) → others (item ∷ items) ≡ others (item ∷ []) ++ others items
+  other_by_other None items = refl
+  other_by_other (Some item) items = refl
+
+  -- one more of the items was told, the one at i
+  pub one_other : (told whole : List LineValue) (items : List (Option Item)) (i : ℕ) → i < length items → told ++ others (drop i items) ≡ whole
+      → (told ++ others (get_or items i None ∷ [])) ++ others (drop (i + 1) items) ≡ whole
+  one_other told whole items i within so_far =
+      let item = get_or items i None in
+      let rest : drop i items ≡ item ∷ drop (i + 1) items = rw add-one (drop-cons items i None within) in
+      append_assoc told _ _
+      ∙ ap (λ (o : List LineValue). told ++ o) (sym (other_by_other item (drop (i + 1) items)))
+      ∙ ap (λ (left : List (Option Item)). told ++ others left) (sym rest)
+      ∙ so_far
+
+  -- none of the items is left
+  pub no_other : (told whole : List LineValue) (items : List (Option Item)) (i : ℕ) → length items ≤ i → told ++ others (drop i items) ≡ whole → told ≡ whole
+  no_other told whole items i past so_far =
+      sym (append-nil told)
+      ∙ ap (λ (left : List (Option Item)). told ++ others left) (sym (drop_of_length-le items past))
+      ∙ so_far

@@ -12,6 +12,7 @@ ghost use Rattle.bgp_why.specs.State.{already_line, another_as_line, state_line}
 ghost use Rattle.bgp_verdict_lines.specs.Lines.{PutsLines};
 
 use crate::notes::tell_notes;
+use crate::others::tell_other_orders;
 use crate::possible::tell_possible;
 use crate::received::{tell_last_received, tell_last_update};
 use crate::teller::VerdictTeller;
@@ -185,7 +186,7 @@ pub fn put_last_update<A: Allocator + Copy, B: Allocator, W: Sink>(
 }
 
 /// Puts what may stand in the impossible record's place, an item a line, with what the record lacks
-/// of the item that it resembles.
+/// of the item that it resembles; and what could have been sent there in other orders.
 pub fn put_possible_but<A: Allocator + Copy, B: Allocator, W: Sink>(
     lines: &mut VerdictLines<'_, A, W>,
     style: &Style,
@@ -210,6 +211,7 @@ pub fn put_possible_but<A: Allocator + Copy, B: Allocator, W: Sink>(
                 possible,
                 lacks,
             );
+            tell_other_orders(telling, &mut lines.lines, alloc, style, possible);
         }
     }
 }

@@ -1,11 +1,12 @@
 //! The lines of what could have been sent in the impossible record's place in another order.
 
-ghost use Rattle.std.specs.Prelude.{◌∷◌, []};
+ghost use Rattle.std.specs.Prelude.{◌≡◌, ◌∷◌, []};
 ghost use Rattle.bgp_text.specs.Lines.{Writes};
 ghost use Rattle.bgp_why.specs.Items.{all_items, those_possible};
+ghost use Rattle.bgp_why.specs.OtherOrders.{besides};
 ghost use Rattle.bgp_why.specs.Possible.{other_item_lines, other_lines};
 
-use crate::items::{Item, items_of};
+use crate::items::{ITEMS, Item, items_of};
 use crate::lacks::Lacks;
 use crate::other_orders::{OtherOrders, besides};
 use crate::possible::put_item_line;
@@ -55,4 +56,12 @@ pub(crate) fn put_other_orders<W: Sink>(
         ),
         OtherOrders::Known(others) => put_other_items(lines, style, &besides(possible, others)),
     }
+}
+
+/// Returns each item that could have been sent in other orders, beside what is possible by the
+/// records.
+pub fn other_items(possible: &Possible, others: &Possible) -> [Option<Item>; ITEMS]
+    ensures { result ≡ all_items (besides possible.now others.now) }
+{
+    items_of(&besides(possible, others))
 }
