@@ -140,21 +140,22 @@ const WRONG_VERDICT: &str = "{\"type\":\"verdict\",\"judged\":1,\"answer\":\"no\
 
 /// Its reason in JSON.
 const WRONG_REASON: &str = "\
-{\"type\":\"record\",\"judged\":1,\"record\":2,\"second\":100,\"address\":\"192.0.2.1\",\"deed\":\"sent OPEN \
-to 192.0.2.2, not allowed here: Hold Time 90, configured 180\"}
-{\"type\":\"message\",\"judged\":1,\"line\":\"open as 65001 hold 90 id 192.0.2.1 | Multiprotocol IPv4 \
-unicast | Multiprotocol IPv6 unicast | Four-octet AS 65001\"}
+{\"type\":\"record\",\"judged\":1,\"record\":2,\"second\":100,\"address\":\"192.0.2.1\",\
+\"deed\":\"sent OPEN to 192.0.2.2, not allowed here: Hold Time 90, configured 180\"}
+{\"type\":\"message\",\"judged\":1,\
+\"line\":\"open as 65001 hold 90 id 192.0.2.1 | Multiprotocol IPv4 unicast | \
+Multiprotocol IPv6 unicast | Four-octet AS 65001\"}
 {\"type\":\"state\",\"judged\":1,\"state\":\"Connect\",\"record\":1,\"second\":100}
-{\"type\":\"possible\",\"judged\":1,\"owed\":false,\"next\":false,\"first\":true,\"item\":\"any message \
-received\"}
-{\"type\":\"possible\",\"judged\":1,\"owed\":false,\"next\":false,\"first\":false,\"item\":\"OPEN sent [RFC \
-4271 4.2]\",\"but\":\"this one: Hold Time 90, configured 180\"}
-{\"type\":\"possible\",\"judged\":1,\"owed\":false,\"next\":false,\"first\":false,\"item\":\"the session \
-ends, Connect to Idle [RFC 4271 8.2.2]\"}
-{\"type\":\"possible\",\"judged\":1,\"owed\":false,\"next\":false,\"first\":false,\"item\":\"the same \
-state once more, Connect\"}
-{\"type\":\"possible\",\"judged\":1,\"owed\":false,\"next\":false,\"first\":false,\"item\":\"change of \
-state, Connect to OpenSent [RFC 4271 8.2.2]\"}
+{\"type\":\"possible\",\"judged\":1,\"owed\":false,\"next\":false,\"first\":true,\
+\"item\":\"any message received\"}
+{\"type\":\"possible\",\"judged\":1,\"owed\":false,\"next\":false,\"first\":false,\
+\"item\":\"OPEN sent [RFC 4271 4.2]\",\"but\":\"this one: Hold Time 90, configured 180\"}
+{\"type\":\"possible\",\"judged\":1,\"owed\":false,\"next\":false,\"first\":false,\
+\"item\":\"the session ends, Connect to Idle [RFC 4271 8.2.2]\"}
+{\"type\":\"possible\",\"judged\":1,\"owed\":false,\"next\":false,\"first\":false,\
+\"item\":\"the same state once more, Connect\"}
+{\"type\":\"possible\",\"judged\":1,\"owed\":false,\"next\":false,\"first\":false,\
+\"item\":\"change of state, Connect to OpenSent [RFC 4271 8.2.2]\"}
 ";
 
 /// What is written in JSON in place of the reason, if memory is refused for it.
