@@ -51,6 +51,7 @@ pub use message::{MessageName, put_name};
 pub use message_line::{put_data_line, put_message_line};
 pub use note_lines::{NOTES, Note, put_note_text, put_notes, shown_notes};
 pub use notes::Notes;
+pub use other_lines::other_items;
 pub use other_orders::OtherOrders;
 pub use place::{Place, put_place};
 pub use possible::{put_possible, put_possible_but, shown_items};

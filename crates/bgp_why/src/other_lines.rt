@@ -1,11 +1,12 @@
 //! The lines of what could have been sent in the impossible record's place in another order.
 
-ghost use Rattle.std.specs.Prelude.{◌∷◌, []};
+ghost use Rattle.std.specs.Prelude.{◌≡◌, ◌∷◌, []};
 ghost use Rattle.bgp_text.specs.Lines.{Writes};
 ghost use Rattle.bgp_why.specs.Items.{all_items, those_possible};
+ghost use Rattle.bgp_why.specs.OtherOrders.{besides};
 ghost use Rattle.bgp_why.specs.Possible.{other_item_lines, other_lines};
 
-use crate::items::{Item, items_of};
+use crate::items::{ITEMS, Item, items_of};
 use crate::lacks::Lacks;
 use crate::other_orders::{OtherOrders, besides};
 use crate::possible::put_item_line;
@@ -14,6 +15,13 @@ use bgp_reason::Possible;
 use bgp_text::Lines;
 use mrt::Sink;
 use std::alloc::Global;
+
+/// Returns the items that these others have beside the possible ones.
+pub fn other_items(possible: &Possible, others: &Possible) -> [Option<Item>; ITEMS]
+    ensures { result ≡ all_items (besides possible.now others.now) }
+{
+    items_of(&besides(possible, others))
+}
 
 /// Puts the line of an item, where it is possible.
 fn put_other_item<W: Sink>(lines: &mut Lines<'_, W>, style: &Style, item: &Option<Item>)
