@@ -6,6 +6,7 @@ use bgp_explain::{JudgedCapture, Report, explain_capture, judge_opened};
 use bgp_open::{Config, ConfigParts};
 use bgp_tool::{CaptureCommand, Form, Note};
 use bgp_vectors::ROUTER_A;
+use bgp_verdict_lines::VerdictForm;
 use linked_list_allocator::LocalHeap;
 use mrt::{FromWrite, MemSink, MemSource, SinkUpset};
 use std::alloc::Global;
@@ -47,6 +48,7 @@ fn is_broken(alloc: Global) -> Option<bool> {
     let status = explain_capture::<Global, CompactTracker, _, _>(
         alloc,
         &config,
+        VerdictForm::Text,
         &mut source,
         &mut sink,
     );
@@ -110,6 +112,7 @@ fn explained_with(alloc: Global, size: usize) -> Option<Outcome> {
     let status = explain_capture::<&LocalHeap, CompactTracker<&LocalHeap>, _, _>(
         &heap,
         &config,
+        VerdictForm::Text,
         &mut source,
         &mut sink,
     );
@@ -144,6 +147,7 @@ fn is_told(
         alloc,
         &config,
         Report::WithReason,
+        VerdictForm::Text,
         "a.mrt",
         opened,
         &mut sink,

@@ -2,7 +2,7 @@ use Rattle.std.proofs.Common.{◌∙◌, List, None, ap, subst, sym}
 use Rattle.bgp_judge.specs.Verdict.{VerdictValue, verdict_value}
 use Rattle.bgp_recording.specs.Captured.{records_of}
 use Rattle.bgp_recording.specs.declared.entry.Entry.{Entry}
-use Rattle.bgp_text.specs.Lines.{Writes}
+use Rattle.bgp_verdict_lines.specs.Lines.{PutsLines}
 use Rattle.bgp_explain.specs.Records.{AreExplained}
 use Rattle.bgp_why.specs.declared.other_orders.OtherOrders.TheVariants.{Unasked}
 use Rattle.bgp_recording_tool.specs.Connections.{IsMore}
@@ -33,6 +33,6 @@ returns-in-Another g c =
     rw c.in-Another.is (
       more,
       subst (λ (v : VerdictValue). IsMore report config others Unasked v more) sought.1 is_more',
-      subst (λ (v : VerdictValue). Writes c.args.lines.now c.put_report-in-Another.new.lines (told_text (told_of v None more))) sought.1 wrote,
+      subst (λ (v : VerdictValue). PutsLines c.args.lines.now c.put_report-in-Another.new.lines (told_text (told_of v None more))) sought.1 wrote,
       tells ∙ ap (λ (v : VerdictValue). told_status (told_of v None more)) sought.1,
     )
