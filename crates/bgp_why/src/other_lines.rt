@@ -64,11 +64,3 @@ pub(crate) fn put_other_orders<W: Sink>(
         OtherOrders::Known(others) => put_other_items(lines, style, &besides(possible, others)),
     }
 }
-
-/// Returns each item that could have been sent in other orders, beside what is possible by the
-/// records.
-pub fn other_items(possible: &Possible, others: &Possible) -> [Option<Item>; ITEMS]
-    ensures { result ≡ all_items (besides possible.now others.now) }
-{
-    items_of(&besides(possible, others))
-}
