@@ -32,7 +32,7 @@ module _ {X W : Type 0} {sink : sinks.Ghosts W} (law : Joins sink) (form : Verdi
   printed_in text code status fresh first last starts puts handed none told =
       written_in sink.takes sink.failures form a.teller b.teller a.lines b.lines old new text code status starts puts.puts
       (λ printed one is wrote. is_written a.lines c old new fresh first last printed one status (and_nothing law wrote handed) none
-      (told_as told (let back : teller_status b.teller code ≡ one = cc in back)))
+      (told_as told (sym is)))
 
 -- ---- the exit status
 
