@@ -16,6 +16,13 @@ use bgp_text::Lines;
 use mrt::Sink;
 use std::alloc::Global;
 
+/// Returns the items that these others have beside the possible ones.
+pub fn other_items(possible: &Possible, others: &Possible) -> [Option<Item>; ITEMS]
+    ensures { result ≡ all_items (besides possible.now others.now) }
+{
+    items_of(&besides(possible, others))
+}
+
 /// Puts the line of an item, where it is possible.
 fn put_other_item<W: Sink>(lines: &mut Lines<'_, W>, style: &Style, item: &Option<Item>)
     ensures { Writes lines.old lines.new
@@ -56,12 +63,4 @@ pub(crate) fn put_other_orders<W: Sink>(
         ),
         OtherOrders::Known(others) => put_other_items(lines, style, &besides(possible, others)),
     }
-}
-
-/// Returns each item that could have been sent in other orders, beside what is possible by the
-/// records.
-pub fn other_items(possible: &Possible, others: &Possible) -> [Option<Item>; ITEMS]
-    ensures { result ≡ all_items (besides possible.now others.now) }
-{
-    items_of(&besides(possible, others))
 }
