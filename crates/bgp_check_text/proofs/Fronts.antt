@@ -117,6 +117,22 @@ of_these config records (Some shown) front is within = record {
       (is.is_longest n above (let len = length-append records (shown ∷ []) in omega (arith, inside, len)));
 }
 
+-- and of the first of these
+pub of_first : (config : Config) (records : List ShownRecord) (most : ℕ) (before : List End) (is : AreOfLongestFront config records before) → is.count ≤ most
+    → most ≤ length records → AreOfLongestFront config (take most records) before
+of_first config records most before is within inside =
+    let len = length-take-le most records inside in
+    record {
+      count = is.count;
+      is_front = omega (arith, within, len);
+      has_some = is.has_some;
+      lists = subst (λ (rs : List ShownRecord). ListsEnds config rs before) (sym (take-take is.count most records within)) is.lists;
+      are_established = is.are_established;
+      is_longest = λ n above few.
+          let front : n ≤ most = omega (arith, few, len) in
+          subst (λ (rs : List ShownRecord). ¬ EndsEstablished config rs) (sym (take-take n most records front)) (is.is_longest n above (omega (arith, front, inside)));
+    }
+
 -- there are ends before: then an end may be in a lower state
 lower_if : (lower : Bool) (config : Config) (records : List ShownRecord) (before : List End) → AreBeforeIf lower config records before → before ≢ [] → IsTrue lower
 lower_if true config records before are some = refl

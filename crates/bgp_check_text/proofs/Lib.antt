@@ -12,4 +12,5 @@ pub mod RestTexts
 pub mod AtRecord
 mod SomeOffers
 pub mod Fronts
+pub mod Refusals
 pub mod SomeEnd

@@ -1,5 +1,6 @@
 pub mod AsNumber
 pub mod Highest
+pub mod Refused
 pub mod Reached
 pub mod End
 pub mod States

@@ -41,6 +41,7 @@ mod quiet;
 mod reached;
 mod read_alike;
 mod reason;
+mod refused;
 mod sending;
 mod settings;
 mod shown;
