@@ -14,3 +14,6 @@ mod SomeOffers
 pub mod Fronts
 pub mod Refusals
 pub mod SomeEnd
+mod ErrorTexts
+mod ErrorSets
+mod OneItem

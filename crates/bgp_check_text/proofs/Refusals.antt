@@ -15,14 +15,14 @@ all_mid P [] x ys all = all.0
 all_mid P (z ∷ xs) x ys all = all_mid P xs x ys all.1
 
 -- up to the first that is so two lists that are one list are the same
-same_front : {X : Type 0} (P : X → Type 0) (xs ys : List X) (x y : X) (as bs : List X) → xs ++ x ∷ as ≡ ys ++ y ∷ bs → AllByRecursion (λ (z : X). ¬ P z) xs
+same_front : {X : Type 0} (P : X → Type 0) (xs ys : List X) (x y : X) (before behind : List X) → xs ++ x ∷ before ≡ ys ++ y ∷ behind → AllByRecursion (λ (z : X). ¬ P z) xs
     → AllByRecursion (λ (z : X). ¬ P z) ys → P x → P y → xs ≡ ys
-same_front P [] [] x y as bs e none other is is_also = refl
-same_front P [] (z ∷ ys) x y as bs e none other is is_also = absurd (other.0 (subst P (let k : x ≡ z = cc in k) is))
-same_front P (z ∷ xs) [] x y as bs e none other is is_also = absurd (none.0 (subst P (let k : y ≡ z = cc in k) is_also))
-same_front P (z ∷ xs) (w ∷ ys) x y as bs e none other is is_also =
+same_front P [] [] x y before behind e none other is is_also = refl
+same_front P [] (z ∷ ys) x y before behind e none other is is_also = absurd (other.0 (subst P (let k : x ≡ z = cc in k) is))
+same_front P (z ∷ xs) [] x y before behind e none other is is_also = absurd (none.0 (subst P (let k : y ≡ z = cc in k) is_also))
+same_front P (z ∷ xs) (w ∷ ys) x y before behind e none other is is_also =
     let first : z ≡ w = cc in
-    let rest = same_front P xs ys x y as bs (let k : xs ++ x ∷ as ≡ ys ++ y ∷ bs = cc in k) none.1 other.1 is is_also in
+    let rest = same_front P xs ys x y before behind (let k : xs ++ x ∷ before ≡ ys ++ y ∷ behind = cc in k) none.1 other.1 is is_also in
     cc
 
 cut_at : {X Y : Type 0} (f : X → Y) (xs : List X) (i : ℕ) (d : X) → i < length xs → map f xs ≡ take i (map f xs) ++ f (get_or xs i d) ∷ map f (drop (suc i) xs)
@@ -87,5 +87,5 @@ pub none_heard : (records : List ShownRecord) (count : ℕ) → IsFirstError rec
     → ¬ IsRefusedAfter records n
 none_heard records count first none n is =
     let same = same_front SendsUpdateError (take count records) (take n records ++ is.update ∷ is.between) first.error is.error first.behind is.behind
-        (sym first.whole ∙ is.whole) first.is_first is.is_first first.sends is.sends in
+    (sym first.whole ∙ is.whole) first.is_first is.is_first first.sends is.sends in
     all_mid HearsNothing (take n records) is.update is.between (subst (AllByRecursion HearsNothing) same none) is.hears

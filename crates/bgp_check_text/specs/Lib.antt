@@ -18,3 +18,4 @@ pub mod Shown
 pub mod Reason
 pub mod SentDeed
 pub mod Unshown
+pub mod ItemTexts
