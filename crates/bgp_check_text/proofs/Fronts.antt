@@ -1,5 +1,5 @@
 -- The fronts of records, and where runs that show them end.
-use Rattle.std.proofs.Common.{◌≡◌, ◌≢◌, ◌+◌, ◌-◌, ◌<◌, ◌≤◌, ◌⊎◌, Bool, true, false, IsTrue, ℕ, List, [], ◌∷◌, Option, None, Some, arith, inl, inr, length, refl, subst, suc, sym, take, zero}
+use Rattle.std.proofs.Common.{◌≡◌, ◌≢◌, ◌∙◌, ◌+◌, ◌-◌, ◌<◌, ◌≤◌, ◌⊎◌, Bool, true, false, IsTrue, ℕ, List, [], ◌∷◌, Option, None, Some, arith, inl, inr, length, refl, subst, suc, sym, take, zero}
 use Rattle.std.proofs.lemmas.List.{length-append, length-take-le, take-append-le, take-take}
 use Rattle.bgp_prefix.specs.Shown.{ShownRecord}
 use Rattle.bgp_open.specs.declared.config.Config.{Config}
@@ -95,27 +95,33 @@ none_at_all law config records left is so_far (suc n) within = so_far.none (suc 
 
 -- ---- a front that is known
 
--- of more records it is the longest, and it is one of these
-pub of_these : (config : Config) (records : List ShownRecord) (leaving : Option ShownRecord) (front : FrontValue)
-    → IsLongestFront config (with_leaving records leaving) front → front.count ≤ length records → AreOfLongestFront config records front.ends
-of_these config records None front is within = record {
-  count = front.count;
-  is_front = within;
-  has_some = is.has_some;
-  lists = is.lists;
-  are_established = is.are_established;
-  is_longest = is.is_longest;
-}
-of_these config records (Some shown) front is within = record {
-  count = front.count;
-  is_front = within;
-  has_some = is.has_some;
-  lists = subst (λ (rs : List ShownRecord). ListsEnds config rs front.ends) (take-append-le front.count records (shown ∷ []) within) is.lists;
-  are_established = is.are_established;
-  is_longest = λ n above inside.
-      subst (λ (rs : List ShownRecord). ¬ EndsEstablished config rs) (take-append-le n records (shown ∷ []) inside)
-      (is.is_longest n above (let len = length-append records (shown ∷ []) in omega (arith, inside, len)));
-}
+first_ones : (records : List ShownRecord) (leaving : Option ShownRecord) (n : ℕ) → n ≤ length records → take n (with_leaving records leaving) ≡ take n records
+first_ones records None n within = refl
+first_ones records (Some shown) n within = take-append-le n records (shown ∷ []) within
+
+no_fewer : (records : List ShownRecord) (leaving : Option ShownRecord) → length records ≤ length (with_leaving records leaving)
+no_fewer records None = omega arith
+no_fewer records (Some shown) = let len = length-append records (shown ∷ []) in omega (arith, len)
+
+-- of more records it is the longest, and so it is of the first of them
+pub of_first : (config : Config) (records : List ShownRecord) (leaving : Option ShownRecord) (front : FrontValue) (most : ℕ)
+    → IsLongestFront config (with_leaving records leaving) front → front.count ≤ most → most ≤ length records → AreOfLongestFront config (take most records) front.ends
+of_first config records leaving front most is within inside =
+    let len = length-take-le most records inside in
+    record {
+      count = front.count;
+      is_front = omega (arith, within, len);
+      has_some = is.has_some;
+      lists = subst (λ (rs : List ShownRecord). ListsEnds config rs front.ends)
+          (first_ones records leaving front.count (omega (arith, within, inside)) ∙ sym (take-take front.count most records within)) is.lists;
+      are_established = is.are_established;
+      is_longest = λ n above few.
+          let front_n : n ≤ most = omega (arith, few, len) in
+          let more = no_fewer records leaving in
+          subst (λ (rs : List ShownRecord). ¬ EndsEstablished config rs)
+          (first_ones records leaving n (omega (arith, front_n, inside)) ∙ sym (take-take n most records front_n))
+          (is.is_longest n above (omega (arith, front_n, inside, more)));
+    }
 
 -- there are ends before: then an end may be in a lower state
 lower_if : (lower : Bool) (config : Config) (records : List ShownRecord) (before : List End) → AreBeforeIf lower config records before → before ≢ [] → IsTrue lower

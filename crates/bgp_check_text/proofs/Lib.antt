@@ -12,4 +12,8 @@ pub mod RestTexts
 pub mod AtRecord
 mod SomeOffers
 pub mod Fronts
+pub mod Refusals
 pub mod SomeEnd
+mod ErrorTexts
+mod ErrorSets
+mod OneItem

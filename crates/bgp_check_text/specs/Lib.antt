@@ -1,5 +1,6 @@
 pub mod AsNumber
 pub mod Highest
+pub mod Refused
 pub mod Reached
 pub mod End
 pub mod States
@@ -17,3 +18,4 @@ pub mod Shown
 pub mod Reason
 pub mod SentDeed
 pub mod Unshown
+pub mod ItemTexts

@@ -16,6 +16,7 @@ use Rattle.bgp_check.specs.Answered.{AnswerValue, JudgedAs, Unjudged}
 use Rattle.bgp_check.specs.StretchTold.{with_leaving}
 use Rattle.bgp_check.specs.WatchedEnd.{IsWatchedFor}
 use Rattle.bgp_check_text.specs.Highest.{highest_state}
+use Rattle.bgp_check_text.specs.Refused.{IsUpToRefusal}
 use Rattle.bgp_check_text.specs.declared.reached.Reached.{Reached}
 
 -- ---- the ends before
@@ -48,8 +49,14 @@ AreBefore config records before =
 abbrev pub has_lower : List End → Bool
 has_lower ends = list_any (λ e. not (number_of e.fsm == 6)) ends
 
+-- They are told of the records before the UPDATE that the local system refused, if it refused one:
+-- nothing of it was applied (RFC 4271, 6.3).
+abbrev pub AreBeforeRefusal : Config → List ShownRecord → List End → Type 0
+AreBeforeRefusal config records before =
+    (count : ℕ) × IsUpToRefusal records count × AreBefore config (take count records) before
+
 abbrev pub AreBeforeIf : Bool → Config → List ShownRecord → List End → Type 0
-AreBeforeIf true config records before = AreBefore config records before
+AreBeforeIf true config records before = AreBeforeRefusal config records before
 AreBeforeIf false config records before = before ≡ []
 
 abbrev pub AreBeforeOf : Config → List ShownRecord → VerdictValue → List End → Type 0

@@ -1,8 +1,11 @@
-//! Laws of the options of `bgp judge`, each on a function that does nothing.
+//! Laws of the options of `bgp judge` and of the texts of a reason, each on a function that does
+//! nothing.
 
 ghost use Rattle.bgp_check_text.specs.FramedAlike.{RecordsAreFramedAlike};
+ghost use Rattle.bgp_check_text.specs.ItemTexts.{ItemsDiffer};
 ghost use Rattle.bgp_check_text.specs.OfCapture.{CapturesAreReadAlike};
 
+use bgp_clock::each_second_reads_back;
 use mrt_sessions::reads_are_spelled;
 
 /// Where [`capture_options`](crate::capture_options) tells options of a capture that is read to its
@@ -23,3 +26,12 @@ pub fn a_capture_is_read_alike()
 pub fn records_are_framed_alike()
     ensures { RecordsAreFramedAlike }
 {}
+
+/// States that two items of a reason, the kinds of records that could have come, have two texts: an
+/// item is determined by its text, with each error and subcode in it, their data, both states of a
+/// change, and the second from which on it is possible.
+pub fn each_item_has_its_text()
+    ensures { ItemsDiffer }
+{
+    each_second_reads_back();
+}

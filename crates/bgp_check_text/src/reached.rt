@@ -1,20 +1,23 @@
 //! How far a session came before its end.
 
-ghost use Rattle.std.specs.Prelude.{◌≡◌, ◌≢◌, ◌++◌, [], IfNone, IfOk, IfSome, IsTrue, OnErr, OnOk};
-ghost use Rattle.std.specs.Prelude.{map, nat_lt, option_map};
+ghost use Rattle.std.specs.Prelude.{◌≡◌, ◌≢◌, ◌≤◌, ◌++◌, [], IfNone, IfOk, IfSome, IsTrue, OnErr};
+ghost use Rattle.std.specs.Prelude.{OnOk, List, length, map, nat_lt, option_map, take};
 ghost use Rattle.std.specs.List.{filter};
+ghost use Rattle.bgp_prefix.specs.Shown.{ShownRecord};
 ghost use Rattle.mrt.specs.Reader.{shown_of};
 ghost use Rattle.bgp_judge.specs.Ends.{end_value};
 ghost use Rattle.bgp_judge.specs.Verdict.{Yes, verdict_value};
 ghost use Rattle.bgp_check.specs.Answered.{answer_value};
-ghost use Rattle.bgp_check_text.specs.Reached.{AreBefore, AreBeforeIf, AreBeforeOf, AreBeforeTo};
-ghost use Rattle.bgp_check_text.specs.Reached.{AreOfLongestFront, IsKnown, IsKnownFor, IsLowerTo};
-ghost use Rattle.bgp_check_text.specs.Reached.{IsLowerYes, IsNoYes, IsReached, counts_of};
-ghost use Rattle.bgp_check_text.specs.Reached.{has_lower, reached_value, with_count};
+ghost use Rattle.bgp_check_text.specs.Reached.{AreBefore, AreBeforeIf, AreBeforeOf};
+ghost use Rattle.bgp_check_text.specs.Reached.{AreBeforeRefusal, AreBeforeTo, AreOfLongestFront};
+ghost use Rattle.bgp_check_text.specs.Reached.{IsKnown, IsKnownFor, IsLowerTo, IsLowerYes};
+ghost use Rattle.bgp_check_text.specs.Reached.{IsNoYes, IsReached, counts_of, has_lower};
+ghost use Rattle.bgp_check_text.specs.Reached.{reached_value, with_count};
 ghost use Rattle.bgp_open.specs.declared.config.Config.{Config as TheConfig};
 ghost use Rattle.bgp_watch.specs.Front.{front_value};
 
 use crate::highest::highest_state;
+use crate::refused::up_to_refusal;
 use bgp_check::Answer;
 use bgp_judge::{End, Tracker, Verdict, judge_records, records_tell_the_state};
 use bgp_open::Config;
@@ -31,7 +34,7 @@ pub struct Reached<A: Allocator = Global> {
     /// The number of the highest state that its records tell (RFC 6396, 4.4.1).
     pub(crate) highest: u16,
     /// If it may have ended in a lower state than Established: the ends of the longest front of
-    /// its records that has one in Established.
+    /// its records that has one in Established, without an UPDATE that was refused.
     pub(crate) before: Vec<End<A>, A>,
     /// How many routes these have, each number once, ascending.
     pub(crate) counts: Vec<usize, A>,
@@ -50,22 +53,15 @@ fn ends_of<A: Allocator>(verdict: Verdict<A>) -> Option<Vec<End<A>, A>>
     }
 }
 
-/// Returns the ends of a front that is known, if it is one of these records.
-fn known_ends<A: Allocator>(
-    records: &[Record<'_>],
-    known: Option<Front<A>>,
-) -> Option<Vec<End<A>, A>>
-    ensures { (config : TheConfig)
-        → IsKnown config (map shown_of records.now) (option_map front_value known)
-        → IfSome result (λ ends. AreOfLongestFront config (map shown_of records.now)
+/// Returns the ends of a front that is known, if it has so many records at the most.
+fn known_ends<A: Allocator>(most: usize, known: Option<Front<A>>) -> Option<Vec<End<A>, A>>
+    ensures { (config : TheConfig) (records : List ShownRecord) → most ≤ length records
+        → IsKnown config records (option_map front_value known)
+        → IfSome result (λ ends. AreOfLongestFront config (take most records)
         (map end_value ends.items)) }
 {
     let Front { count, ends } = known?;
-    if count <= records.len() {
-        Some(ends)
-    } else {
-        None
-    }
+    if count <= most { Some(ends) } else { None }
 }
 
 /// Returns the ends of the longest front of the records that has one in Established, if one has, of
@@ -106,6 +102,26 @@ fn has_lower<A: Allocator>(endings: &[End<A>]) -> bool
     false
 }
 
+/// Returns the ends of the longest front that has one in Established, of the records before the
+/// UPDATE that the local system refused, if it refused one. Nothing is judged if that front is the
+/// one that is known.
+fn ends_before_refusal<A: Allocator + Copy, T: Tracker<A>>(
+    alloc: A,
+    config: &Config,
+    records: &[Record<'_>],
+    known: Option<Front<A>>,
+) -> Result<Vec<End<A>, A>, AllocError>
+    requires { IsKnown config.now (map shown_of records.now) (option_map front_value known) }
+    ensures { IfOk result (λ ends. AreBeforeRefusal config.now (map shown_of records.now)
+        (map end_value ends.items)) }
+{
+    let left = up_to_refusal(records);
+    match known_ends(left, known) {
+        Some(ends) => Ok(ends),
+        None => ends_before::<A, T>(alloc, config, &records[..left]),
+    }
+}
+
 /// Returns the ends before, if one of these possible ends is in a lower state.
 fn before_ends<A: Allocator + Copy, T: Tracker<A>>(
     alloc: A,
@@ -120,10 +136,7 @@ fn before_ends<A: Allocator + Copy, T: Tracker<A>>(
     ensures memory { OnErr result (IsTrue (has_lower (map end_value endings.now))) }
 {
     if has_lower(endings) {
-        match known_ends(records, known) {
-            Some(ends) => Ok(ends),
-            None => ends_before::<A, T>(alloc, config, records),
-        }
+        ends_before_refusal::<A, T>(alloc, config, records, known)
     } else {
         Ok(Vec::new(alloc))
     }
@@ -235,9 +248,12 @@ fn counts_of<A: Allocator + Copy>(alloc: A, endings: &[End<A>]) -> Result<Vec<us
     Ok(counts)
 }
 
-/// Returns how far the session came of whose records this is answered. If it may have ended in a
-/// lower state after Established, and no front is known that has an end there, records are judged
-/// once more.
+/// Returns how far the session came of whose records this is answered. If the local system refused
+/// an UPDATE, the routes are those before that UPDATE, since nothing of it was applied (RFC 4271,
+/// 6.3).
+///
+/// If the session may have ended in a lower state after Established, and the front is not known that
+/// has the last end there, records are judged once more.
 ///
 /// Returns `AllocError` if memory is refused: only if it may have ended in a lower state.
 pub fn reached_by<A: Allocator + Copy, T: Tracker<A>>(

@@ -242,8 +242,8 @@ NoesAreTrue options packets last_packet (AllRefused addresses refusal) = Unit {0
 -- these records of it, under a configuration under which the OPEN that the end sent is its own. The
 -- records are those of the made order; or else those of another one that the packets allow, and
 -- then a note says so. After Established they have the counts of routes that stood before, by the
--- longest front of these records that has an end in Established, under the configuration under
--- which the verdict is told.
+-- longest front of these records that has an end in Established, or of those before an UPDATE that
+-- the end refused, under the configuration under which the verdict is told.
 pub record IsTrueYes (options : CheckOptions) (packets : List Recorded) (last_packet : ℕ)
     (session : Session) (opening : Opening) (side : Side) (told : EndTold) : Type 0 where
   pub entries : List Entry

@@ -32,7 +32,8 @@ use std::alloc::Allocator;
 /// one of these orders. Each state in which such a run can end is listed, and no other. It is the
 /// order that `bgp import` makes, or another one, and then a note says so. The routes *before that*
 /// of a session that left Established are those of all ends of the longest front of these records
-/// that has one in Established. That is the clause `yes`.
+/// that has one in Established; if the end refused an UPDATE, of the records before that UPDATE.
+/// That is the clause `yes`.
 ///
 /// If they begin with `unfinished after packet P`, packet P shows the last record, no run
 /// under such a configuration shows just the end's records in the order that is made, and some run

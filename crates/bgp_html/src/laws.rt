@@ -1,0 +1,14 @@
+//! Laws of text in HTML, each on a function that does nothing.
+
+ghost use Rattle.bgp_html.specs.Escaped.{EscapedTextIsNoMarkup, EscapedTextIsThatTextAlone};
+
+/// Nothing of a text is markup: no octet of it begins or ends a tag, or ends the value of an
+/// attribute.
+pub fn escaped_text_is_no_markup()
+    ensures { EscapedTextIsNoMarkup }
+{}
+
+/// Nothing of a text is lost: texts that stand there in the same octets are one text.
+pub fn escaped_text_is_that_text_alone()
+    ensures { EscapedTextIsThatTextAlone }
+{}

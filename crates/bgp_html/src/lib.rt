@@ -1,0 +1,16 @@
+//! Text in HTML: whatever is written through here is shown as it is, and is no markup.
+//!
+//! ```text
+//! let mut escaping = Escaping::new(&mut lines);
+//! let mut text = Lines::new(&mut escaping);
+//! put_verdict(&mut text, verdict);
+//! ```
+#![tactic(auto)]
+
+mod escaped;
+mod escaping;
+mod laws;
+
+pub use escaped::put_escaped;
+pub use escaping::Escaping;
+pub use laws::{escaped_text_is_no_markup, escaped_text_is_that_text_alone};
