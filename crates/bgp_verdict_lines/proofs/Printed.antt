@@ -57,7 +57,7 @@ module _ {W : Type 0} (takes : W → W → List ℕ → Type 0) (failures : W �
     | inl calm ↦ inl calm.0
     | inr broken ↦ inr broken.1
   ]
-  counted_in forms.Json (printed, told, is, wrote) = elim wrote.all [
+  counted_in forms.Json (printed, (told, is, wrote)) = elim wrote.all [
     | inl calm ↦ inl calm.0
     | inr broken ↦ inr broken.1
   ]
@@ -65,7 +65,7 @@ module _ {W : Type 0} (takes : W → W → List ℕ → Type 0) (failures : W �
   -- a status below that of memory is the text's own
   own_code : (printed : List ℕ) (told : ℕ) → IsToldInJson text code printed told → status ≡ told → status < 4 → status ≡ code
   own_code printed told is same less = elim is.told [
-    | inl all ↦ same ∙ all.2.1
+    | inl all ↦ same ∙ all.2
     | inr part ↦ let four = part.1 in absurd (omega (arith, same, four, less))
   ]
 
@@ -74,7 +74,7 @@ module _ {W : Type 0} (takes : W → W → List ℕ → Type 0) (failures : W �
     | inl calm ↦ calm.2
     | inr broken ↦ let more = broken.0 in absurd (omega (arith, more, none))
   ]
-  code_in forms.Json (printed, told, is, wrote) none less = elim wrote.all [
+  code_in forms.Json (printed, (told, is, wrote)) none less = elim wrote.all [
     | inl calm ↦ own_code printed told is calm.2 less
     | inr broken ↦ let more = broken.0 in absurd (omega (arith, more, none))
   ]
@@ -85,11 +85,11 @@ seen_as : {V W : Type 0} (view : V → W) (takes : W → W → List ℕ → Type
     → IsWritten (λ (a b : V) (octets : List ℕ). takes (view a) (view b) octets) (λ (a : V). failures (view a)) text code old new status → IsWritten takes failures text code (view old) (view new) status
 seen_as view takes failures wrote = record { written = wrote.written; left = wrote.left; took = wrote.took; begun = wrote.begun; all = wrote.all }
 
-pub viewed_in : {V W : Type 0} (view : V → W) (takes : W → W → List ℕ → Type 0) (failures : W → ℕ) {text : List ℕ} {code : ℕ} {old new : V} {status : ℕ} (form : VerdictForm)
+pub viewed_in : {V W : Type 0} (view : V → W) (takes : W → W → List ℕ → Type 0) (failures : W → ℕ) (text : List ℕ) (code : ℕ) (old new : V) (status : ℕ) (form : VerdictForm)
     → IsWrittenIn form (λ (a b : V) (octets : List ℕ). takes (view a) (view b) octets) (λ (a : V). failures (view a)) text code old new status
     → IsWrittenIn form takes failures text code (view old) (view new) status
-viewed_in view takes failures forms.Text wrote = seen_as view takes failures wrote
-viewed_in view takes failures forms.Json (printed, told, is, wrote) = (printed, told, is, seen_as view takes failures wrote)
+viewed_in view takes failures text code old new status forms.Text wrote = seen_as view takes failures wrote
+viewed_in view takes failures text code old new status forms.Json (printed, (told, is, wrote)) = (printed, (told, is, seen_as view takes failures wrote))
 
 -- ---- what a sink took of fresh lines
 

@@ -78,7 +78,7 @@ returns-clause-reported g c =
           (judges_read (λ (a : WithFront (FromRead _)). reader_state a.source) c.args.form (Takes g.W.Write.contents) (λ state. state.failures) (Gives g.R.Read.remaining)
           (λ state. state.has_ended) (λ state. state.failures) config first seen g.T.Tracker.may_lack old new (λ (a : WithFront (FromRead _)). a.front.items) found
           explained status refused c.new-source.ensures.front c.explain_with-explained.ensures.explained c.explain_with-explained.ensures.failures
-          (viewed_in writer_state (Takes g.W.Write.contents) (λ state. state.failures) c.args.form wrote) c.refused_by-refused.ensures) in record {
+          (viewed_in writer_state (Takes g.W.Write.contents) (λ state. state.failures) _ _ _ _ _ c.args.form wrote) c.refused_by-refused.ensures) in record {
             opened = record {
               source = last;
               found = found;
@@ -100,7 +100,7 @@ returns-clause-reported g c =
           (explains_read (λ (a : WithFront (FromRead _)). reader_state a.source) c.args.form (Takes g.W.Write.contents) (λ state. state.failures) (Gives g.R.Read.remaining)
           (λ state. state.has_ended) (λ state. state.failures) config first seen g.T.Tracker.may_lack old new (λ (a : WithFront (FromRead _)). a.front.items) found
           explained status refused c.new-source.ensures.front c.explain_with-explained.ensures.explained c.explain_with-explained.ensures.failures
-          (text, detailed, said, record { written = wrote.written; left = wrote.left; took = wrote.took; begun = wrote.begun; all = wrote.all }) c.refused_by-refused.ensures) in record {
+          (text, detailed, said, viewed_in writer_state (Takes g.W.Write.contents) (λ state. state.failures) _ _ _ _ _ c.args.form wrote) c.refused_by-refused.ensures) in record {
             opened = record {
               source = last;
               found = found;

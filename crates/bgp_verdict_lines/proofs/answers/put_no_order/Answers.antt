@@ -1,4 +1,5 @@
 use Rattle.std.proofs.Common.{refl}
+use Rattle.bgp_json_verdicts.specs.Lines.{line_text}
 use Rattle.bgp_verdict_lines.proofs.Puts.{in_text, one_line}
 use Rattle.bgp_verdict_lines.proofs.answers.put_no_order.Goals as goal
 
