@@ -5,4 +5,4 @@ pub returns-in-None : goal.returns-in-None
 returns-in-None g c = rw c.in-None.is (no_lines g.met.W.Sink.nothing c.args.lines.now)
 
 pub returns-in-Some-Faulty : goal.returns-in-Some-Faulty
-returns-in-Some-Faulty g c = rw c.in-Some-Faulty.is (no_lines g.met.W.Sink.nothing c.args.lines.now)
+returns-in-Some-Faulty g c = rw (c.in-Some-Faulty.is, c.in-Some-Faulty.field-0-is) (no_lines g.met.W.Sink.nothing c.args.lines.now)
