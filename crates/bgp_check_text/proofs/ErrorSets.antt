@@ -130,7 +130,7 @@ open_back s =
     (has_rows 11 (open_rows s) ∙ or_false s.role)
 
 pub open_known : (s : OpenSubcodes) → AllByRecursion IsKnown (open_list s)
-open_known s = known_rows (open_rows s) (known_error 2 0 (lit< tt) (lit< tt) refl, known_version, known_error 2 2 (lit< tt) (lit< tt) refl, known_error 2 3 (lit< tt) (lit< tt) refl, known_error 2 4 (lit< tt) (lit< tt) refl, known_error 2 6 (lit< tt) (lit< tt) refl, known_error 2 7 (lit< tt) (lit< tt) refl, known_error 2 11 (lit< tt) (lit< tt) refl, tt)
+open_known s = known_rows (open_rows s) (known_error 2 0 (lit< tt) (lit< tt) refl, (known_version, (known_error 2 2 (lit< tt) (lit< tt) refl, (known_error 2 3 (lit< tt) (lit< tt) refl, (known_error 2 4 (lit< tt) (lit< tt) refl, (known_error 2 6 (lit< tt) (lit< tt) refl, (known_error 2 7 (lit< tt) (lit< tt) refl, (known_error 2 11 (lit< tt) (lit< tt) refl, tt))))))))
 
 -- ---- UPDATE Message Error
 
@@ -201,7 +201,7 @@ update_back s =
     (has_rows 11 (update_rows s) ∙ or_false s.malformed_as_path)
 
 pub update_known : (s : Subcodes) → AllByRecursion IsKnown (update_list s)
-update_known s = known_rows (update_rows s) (known_error 3 1 (lit< tt) (lit< tt) refl, known_error 3 2 (lit< tt) (lit< tt) refl, known_error 3 3 (lit< tt) (lit< tt) refl, known_error 3 4 (lit< tt) (lit< tt) refl, known_error 3 5 (lit< tt) (lit< tt) refl, known_error 3 6 (lit< tt) (lit< tt) refl, known_error 3 7 (lit< tt) (lit< tt) refl, known_error 3 8 (lit< tt) (lit< tt) refl, known_error 3 9 (lit< tt) (lit< tt) refl, known_error 3 10 (lit< tt) (lit< tt) refl, known_error 3 11 (lit< tt) (lit< tt) refl, tt)
+update_known s = known_rows (update_rows s) (known_error 3 1 (lit< tt) (lit< tt) refl, (known_error 3 2 (lit< tt) (lit< tt) refl, (known_error 3 3 (lit< tt) (lit< tt) refl, (known_error 3 4 (lit< tt) (lit< tt) refl, (known_error 3 5 (lit< tt) (lit< tt) refl, (known_error 3 6 (lit< tt) (lit< tt) refl, (known_error 3 7 (lit< tt) (lit< tt) refl, (known_error 3 8 (lit< tt) (lit< tt) refl, (known_error 3 9 (lit< tt) (lit< tt) refl, (known_error 3 10 (lit< tt) (lit< tt) refl, (known_error 3 11 (lit< tt) (lit< tt) refl, tt)))))))))))
 
 -- ---- Finite State Machine Error
 
@@ -244,7 +244,7 @@ fsm_back s =
     (has_rows 3 (fsm_rows s) ∙ or_false s.established)
 
 pub fsm_known : (s : FsmErrors) → AllByRecursion IsKnown (fsm_list s)
-fsm_known s = known_rows (fsm_rows s) (known_error 5 0 (lit< tt) (lit< tt) refl, known_error 5 1 (lit< tt) (lit< tt) refl, known_error 5 2 (lit< tt) (lit< tt) refl, known_error 5 3 (lit< tt) (lit< tt) refl, tt)
+fsm_known s = known_rows (fsm_rows s) (known_error 5 0 (lit< tt) (lit< tt) refl, (known_error 5 1 (lit< tt) (lit< tt) refl, (known_error 5 2 (lit< tt) (lit< tt) refl, (known_error 5 3 (lit< tt) (lit< tt) refl, tt))))
 
 -- ---- Message Header Error
 
@@ -302,13 +302,13 @@ known_octet k few = record { code = lit< tt; subcode = lit< tt; form = refl; fit
 known_by : (marker : Bool) (field kind : Option ℕ) → IfSome field (λ n. n < 2 ^ 16) → IfSome kind (λ n. n < 2 ^ 8)
     → AllByRecursion IsKnown (errors_in (header_opts marker field kind))
 known_by true None None f k = (known_marker, tt)
-known_by true None (Some y) f k = (known_marker, known_octet y k, tt)
-known_by true (Some x) None f k = (known_marker, known_field x f, tt)
-known_by true (Some x) (Some y) f k = (known_marker, known_field x f, known_octet y k, tt)
+known_by true None (Some y) f k = (known_marker, (known_octet y k, tt))
+known_by true (Some x) None f k = (known_marker, (known_field x f, tt))
+known_by true (Some x) (Some y) f k = (known_marker, (known_field x f, (known_octet y k, tt)))
 known_by false None None f k = tt
 known_by false None (Some y) f k = (known_octet y k, tt)
 known_by false (Some x) None f k = (known_field x f, tt)
-known_by false (Some x) (Some y) f k = (known_field x f, known_octet y k, tt)
+known_by false (Some x) (Some y) f k = (known_field x f, (known_octet y k, tt))
 
 pub header_known : (s : HeaderFaults) → IfSome s.length (λ n. n < 2 ^ 16) → IfSome s.kind (λ n. n < 2 ^ 8) → AllByRecursion IsKnown (header_list s)
 header_known s f k = known_by s.marker s.length s.kind f k
@@ -395,7 +395,7 @@ open_twins s =
     ∷ (s.role, (theirs.error_of 2 11, error_of 2 11)) ∷ []
 
 pub open_linked : (s : OpenSubcodes) → theirs.any_of (theirs.open_errors s) ≡ errors_text or (open_list s)
-open_linked s = rows_linked (open_twins s) (refl, refl, refl, refl, refl, refl, refl, refl, tt)
+open_linked s = rows_linked (open_twins s) (refl, (refl, (refl, (refl, (refl, (refl, (refl, (refl, tt))))))))
 
 abbrev update_twins : Subcodes → List TwinRow
 update_twins s =
@@ -412,7 +412,7 @@ update_twins s =
     ∷ (s.malformed_as_path, (theirs.error_of 3 11, error_of 3 11)) ∷ []
 
 pub update_linked : (s : Subcodes) → theirs.any_of (theirs.update_errors s) ≡ errors_text or (update_list s)
-update_linked s = rows_linked (update_twins s) (refl, refl, refl, refl, refl, refl, refl, refl, refl, refl, refl, tt)
+update_linked s = rows_linked (update_twins s) (refl, (refl, (refl, (refl, (refl, (refl, (refl, (refl, (refl, (refl, (refl, tt)))))))))))
 
 abbrev fsm_twins : FsmErrors → List TwinRow
 fsm_twins s =
@@ -422,7 +422,7 @@ fsm_twins s =
     ∷ (s.established, (theirs.error_of 5 3, error_of 5 3)) ∷ []
 
 pub fsm_linked : (s : FsmErrors) → theirs.any_of (theirs.fsm_errors s) ≡ errors_text or (fsm_list s)
-fsm_linked s = rows_linked (fsm_twins s) (refl, refl, refl, refl, tt)
+fsm_linked s = rows_linked (fsm_twins s) (refl, (refl, (refl, (refl, tt))))
 
 header_linked_by : (marker : Bool) (field kind : Option ℕ)
     → theirs.any_of (theirs.error_if marker 1 1 ∷ theirs.length_error field ∷ theirs.type_error kind ∷ []) ≡ errors_text or (errors_in (header_opts marker field kind))

@@ -1,5 +1,5 @@
 -- The texts of errors, one after another: two lists of errors have two texts.
-use Rattle.std.proofs.Common.{◌≡◌, ◌∙◌, ◌<◌, ◌^◌, ◌/◌, ◌%◌, ◌==◌, ◌++◌, ℕ, Bool, true, false, not, List, [], ◌∷◌, Option, Some, None, if◌then◌else◌, codes, refl, sym, ap, arith, lit<, slice_index, unwrap_or, append_assoc, append-nil}
+use Rattle.std.proofs.Common.{◌≡◌, ◌∙◌, ◌<◌, ◌^◌, ◌/◌, ◌%◌, ◌==◌, ◌++◌, ℕ, true, false, not, List, [], ◌∷◌, Option, if◌then◌else◌, codes, refl, sym, ap, arith, lit<, slice_index, unwrap_or, append_assoc, append-nil}
 use Rattle.std.specs.Fmt.{decimal}
 use Rattle.std.specs.List.{AllByRecursion}
 use Rattle.std.proofs.lemmas.Bool.{and_parts, both_ways, eq-eqb, not-true}
@@ -13,7 +13,7 @@ use Rattle.bgp_names.proofs.Distinct.{decimal_lacks, head_of, lacks, one_front, 
 use Rattle.bgp_why_parts.specs.Codes.{code_text}
 
 differ : (m n : ℕ) → (m == n) ≡ false → m ≡ n → ⊥
-differ m n no is = both_ways (m == n) no (eq-eqb m n is)
+differ m n isnt is = both_ways (m == n) isnt (eq-eqb m n is)
 
 -- ---- errors: the types of bgp_why are its own
 
@@ -83,7 +83,7 @@ form_of Free = 0
 form_of (Octet octet) = 1
 form_of (Field field) = 2
 
-abbrev form_by : ℕ → ℕ → ℕ
+abbrev pub form_by : ℕ → ℕ → ℕ
 form_by code subcode =
     if code == 1 then (if subcode == 2 then 2 else (if subcode == 3 then 1 else 0))
     else (if code == 2 then (if subcode == 1 then 2 else 0) else 0)

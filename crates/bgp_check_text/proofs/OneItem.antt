@@ -1,7 +1,7 @@
 -- Two items of a reason have two texts.
-use Rattle.std.proofs.Common.{◌≡◌, ◌∙◌, ◌<◌, ◌^◌, ◌+◌, ◌/◌, ◌==◌, ◌&&◌, ◌++◌, ℕ, Bool, true, false, List, [], ◌∷◌, Option, Some, None, if◌then◌else◌, codes, refl, sym, ap, lit<, slice_index, length, append-nil, inl, inr}
+use Rattle.std.proofs.Common.{◌≡◌, ◌∙◌, ◌<◌, ◌^◌, ◌+◌, ◌/◌, ◌==◌, ◌++◌, ℕ, Bool, true, false, List, [], ◌∷◌, Option, None, if◌then◌else◌, codes, refl, sym, ap, lit<, slice_index, length, append-nil, inl, inr}
 use Rattle.std.specs.List.{AllByRecursion}
-use Rattle.std.proofs.lemmas.Bool.{and_parts, both_ways, cases_Bool, eq-eqb, eqb-true}
+use Rattle.std.proofs.lemmas.Bool.{both_ways, cases_Bool, eq-eqb, eqb-true}
 use mathlib.Core.List.{append_cancel_left, append_cancel_right}
 use Rattle.bgp_clock.specs.Civil.{month_of, year_of}
 use Rattle.bgp_clock.specs.When.{clock_text, date_text, four_digits, second_in, short_text, time_text, two_digits, when_text}
@@ -12,7 +12,7 @@ use Rattle.bgp_names.proofs.Distinct.{head_of}
 use Rattle.bgp_update.specs.declared.subcodes.Subcodes.{Subcodes}
 use Rattle.bgp_why.specs.declared.items.Item.{Item}
 use Rattle.bgp_why.specs.declared.items.Item.TheVariants as items
-use Rattle.bgp_why.specs.Errors.{any_of, fsm_errors, has_all, header_errors, open_errors, update_errors, update_errors_text}
+use Rattle.bgp_why.specs.Errors.{any_of, has_all, update_errors}
 use Rattle.bgp_why.specs.Items.{change_text, due_text, from_text, item_text, way_text}
 use Rattle.bgp_why_parts.specs.Codes.{code_text}
 use Rattle.bgp_check_text.specs.ItemTexts.{HasFields, ItemsDiffer}
@@ -20,7 +20,7 @@ use Rattle.bgp_check_text.proofs.ErrorSets.{error_of, fsm_back, fsm_from, fsm_kn
 use Rattle.bgp_check_text.proofs.ErrorTexts.{ErrorCode, IsKnown, cease, errors_text, every, not_cease, not_every, one_errors, or, sent}
 
 differ : (m n : ℕ) → (m == n) ≡ false → m ≡ n → ⊥
-differ m n no is = both_ways (m == n) no (eq-eqb m n is)
+differ m n isnt is = both_ways (m == n) isnt (eq-eqb m n is)
 
 abbrev octet_at : ℕ → List ℕ → ℕ
 octet_at i text = slice_index text i
@@ -243,8 +243,8 @@ module _ (reads : ReadsBack) (first : ℕ) where
   begins_at from = codes " at " ++ (short_text first from None ++ codes " or later")
 
   section_not_from : (s from : ℕ) → (s == 53) ≡ false → tail_text (Section s) ≡ tail_text (From from) → ⊥
-  section_not_from s from no e = elim (cases_Bool (from == 0)) [
-    | inl due ↦ both_ways (s == 53) no (eq-eqb s 53 (ap (octet_at 13) (rw due at e)))
+  section_not_from s from isnt e = elim (cases_Bool (from == 0)) [
+    | inl due ↦ both_ways (s == 53) isnt (eq-eqb s 53 (ap (octet_at 13) (rw due at e)))
     | inr timed ↦ differ 91 97 refl (ap (octet_at 1) (rw timed at e))
   ]
 
@@ -389,7 +389,7 @@ module _ (reads : ReadsBack) (first : ℕ) where
   back (Noted xs Later) = items.SendHoldTimerExpired
   back (Noted xs (From from)) = items.HoldTimerExpired from
 
-  every_by : (a b c d e f g h i j k : Bool) → (a && (b && (c && (d && (e && (f && (g && (h && (i && (j && k)))))))))) ≡ true
+  every_by : (a b c d e f g h i j k : Bool) → has_all (update_made a b c d e f g h i j k) ≡ true
       → all_updates ≡ update_made a b c d e f g h i j k
   every_by true true true true true true true true true true true is = refl
   every_by false b c d e f g h i j k is = absurd (let k : ⊥ = cc in k)
