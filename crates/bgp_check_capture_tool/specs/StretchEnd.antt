@@ -4,6 +4,7 @@ use Rattle.std.specs.Prelude.{option_map, take}
 use Rattle.bgp_prefix.specs.Shown.{ShownRecord}
 use Rattle.bgp_prefix.specs.declared.session.Session.{Session}
 use Rattle.bgp_why.specs.declared.endpoint.Endpoint.{Endpoint}
+use Rattle.bgp_why.specs.declared.other_orders.OtherOrders.TheVariants.{Unasked}
 use Rattle.bgp_why.specs.declared.place.Place.{Place}
 use Rattle.mrt_sessions.specs.File.{Located}
 use Rattle.mrt_sessions.specs.Located.{located}
@@ -83,14 +84,14 @@ view_value view = record {
 }
 
 -- why what is told of it is so, where it is a no or unfinished: the text of a message that was sent
--- goes by what the OPEN of its receiver offers that is heard in the stretch, and a time has a date
--- unless its day is that of the session's first record
+-- goes by what the OPEN of its receiver offers that is heard in the stretch, a time has a date unless
+-- its day is that of the session's first record, and nothing is said of other orders
 abbrev pub IsReasonFor : View → ℕ → ToldValue → List ℕ → List ℕ → Type 0
 IsReasonFor view before told deed lines =
     IsReasonTo view.session (limit_with told.extended) (first_second view.named) false
     (endpoint_of view.session.peer)
-    (numbered_places (numbers_of view.named before told.places)) told.records told.answer deed
-    lines
+    (numbered_places (numbers_of view.named before told.places)) Unasked told.records told.answer
+    deed lines
 
 -- the stretch's own records, of those that are judged: all but the one that leaves it
 abbrev pub own_records : List ShownRecord → Option ShownRecord → List ShownRecord

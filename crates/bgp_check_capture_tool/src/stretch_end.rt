@@ -24,7 +24,7 @@ use bgp_explain::Places;
 use bgp_judge::Tracker;
 use bgp_list::first_second;
 use bgp_prefix::Session;
-use bgp_why::Place;
+use bgp_why::{OtherOrders, Place};
 use bgp_wire::Limit;
 use mrt::Record;
 use mrt_sessions::NamedRecord;
@@ -86,6 +86,7 @@ fn explained<A: Allocator + Copy, T: Tracker<A>>(
         first,
         &peer,
         places,
+        OtherOrders::Unasked,
         &told.records,
         &told.answer,
     )

@@ -18,6 +18,7 @@ use Rattle.bgp_explain.specs.declared.places.Places.{Places}
 use Rattle.bgp_explain.specs.declared.places.Places.TheVariants.{Counted, Numbered, Shown}
 use Rattle.bgp_why.specs.declared.endpoint.Endpoint.{Endpoint}
 use Rattle.bgp_why.specs.declared.place.Place.{Place}
+use Rattle.bgp_why.specs.declared.other_orders.OtherOrders.{OtherOrders}
 use Rattle.bgp_why.specs.declared.style.Style.{Style}
 use Rattle.bgp_why_parts.specs.declared.own_faults.OwnFaults.{OwnFaults}
 use Rattle.bgp_wire.specs.declared.header.Limit.{Limit}
@@ -85,22 +86,24 @@ AreFaultsIn records (Yes ends) faults = faults ≡ None
 AreFaultsIn records (No count) faults = AreFaultsAt records count faults
 AreFaultsIn records Unfinished faults = faults ≡ None
 
--- The session's first record has that second; the peer's AS number may be free; and own faults are
--- told in place of what an OPEN lacks.
-abbrev pub style_of : ℕ → Bool → PeerAs → Option OwnFaults → Style
-style_of first is_recording peer faults = record {
+-- The session's first record has that second; the peer's AS number may be free; own faults are told
+-- in place of what an OPEN lacks; and this is said of other orders.
+abbrev pub style_of : ℕ → Bool → PeerAs → Option OwnFaults → OtherOrders → Style
+style_of first is_recording peer faults instead = record {
   first = first;
   is_recording = is_recording;
   peer_as_is_free = is_of_another peer;
   own_faults = faults;
+  other_orders = instead;
 }
 
 -- ---- all of it
 
 -- The end of this session sends what its receiver allows. Its first record has that second, its
--- records are those of a recording or not, and they stand at these places.
+-- records are those of a recording or not, and they stand at these places. And this is said of
+-- other orders.
 module _ (session : Session) (sent : Limit) (first : ℕ) (is_recording : Bool) (its_peer : Endpoint)
-    (places : ℕ → ℕ → Place) (records : List ShownRecord) where
+    (places : ℕ → ℕ → Place) (instead : OtherOrders) (records : List ShownRecord) where
   -- The configuration under which the verdict is told, and what is said of it.
   pub record IsExplained (peer : PeerAs) (config : Config) (verdict : VerdictValue)
       (deed lines : List ℕ) : Type 0 where
@@ -108,7 +111,7 @@ module _ (session : Session) (sent : Limit) (first : ℕ) (is_recording : Bool) 
     pub holds : HasVerdict config records verdict
     pub faults : Option OwnFaults
     pub are_faults : AreFaultsIn records verdict faults
-    pub is_said : IsSaid config (style_of first is_recording peer faults) sent its_peer
+    pub is_said : IsSaid config (style_of first is_recording peer faults instead) sent its_peer
         (another_of peer) places records verdict deed lines
 
   -- of records that have a verdict under this configuration, whatever it is

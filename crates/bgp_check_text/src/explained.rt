@@ -19,6 +19,7 @@ use bgp_judge::{Tracker, records_have_just_one_verdict};
 use bgp_open::Config;
 use bgp_prefix::Session;
 use bgp_text::Lines;
+use bgp_verdict_lines::{VerdictForm, VerdictLines};
 use bgp_why::{Endpoint, Style};
 use bgp_wire::Limit;
 use mrt::{Failed, MemSink, Record, Sink};
@@ -75,6 +76,7 @@ fn write_deed<W: Sink, A: Allocator + Copy>(
 /// Writes the lines that say why a verdict is as it is.
 fn write_lines<W: Sink, A: Allocator + Copy>(
     sink: &mut W,
+    alloc: A,
     config: &Config,
     telling: &Telling<'_>,
     session: &Session,
@@ -90,7 +92,7 @@ fn write_lines<W: Sink, A: Allocator + Copy>(
         (places_of telling.now.places) records (verdict_value explained.now.verdict) text
         × W.takes sink.old sink.new text) }
 {
-    let mut lines = Lines::new(sink);
+    let mut lines = VerdictLines::new(VerdictForm::Text, alloc, sink);
     put_lines_of(
         &mut lines,
         config,
@@ -149,7 +151,9 @@ fn lines_of<A: Allocator + Copy>(
         text.items) }
 {
     let mut sink = MemSink::new(alloc);
-    match write_lines(&mut sink, config, telling, session, explained, details) {
+    match write_lines(
+        &mut sink, alloc, config, telling, session, explained, details,
+    ) {
         Ok(()) => Ok(sink.into_octets()),
         Err(_) => Err(AllocError),
     }

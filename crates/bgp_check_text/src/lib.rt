@@ -7,8 +7,10 @@
 //!
 //! ```text
 //! let places = Places::Shown(&entries);
-//! let reason =
-//!     reason_of::<A, CompactTracker<A>>(alloc, sent, first, &peer, places, &records, &answer)?;
+//! let instead = OtherOrders::Unasked;
+//! let reason = reason_of::<A, CompactTracker<A>>(
+//!     alloc, sent, first, &peer, places, instead, &records, &answer,
+//! )?;
 //!
 //! let name = EndName { end, as_number, part: None };
 //! put_no(&mut lines, &place, &name, reason.deed());

@@ -19,7 +19,7 @@ use bgp_explain::Places;
 use bgp_judge::{Tracker, Verdict};
 use bgp_prefix::Seconds;
 use bgp_text::Lines;
-use bgp_why::{Endpoint, OwnFaults, Style};
+use bgp_why::{Endpoint, OtherOrders, OwnFaults, Style};
 use bgp_wire::Limit;
 use mrt::{Record, Sink};
 use std::alloc::{AllocError, Allocator, Global};
@@ -88,20 +88,22 @@ fn are_shown(places: Places<'_>) -> bool
 }
 
 /// Returns the style in which a reason is told of an end with such a peer, and with these own
-/// faults, if it has some.
+/// faults, if it has some; and this is said of other orders.
 fn style_of(
     first: Seconds,
     is_recording: bool,
     peer: PeerAs,
     own_faults: Option<OwnFaults>,
+    other_orders: OtherOrders,
 ) -> Style
-    ensures { result ≡ style_of first is_recording peer own_faults }
+    ensures { result ≡ style_of first is_recording peer own_faults other_orders }
 {
     Style {
         first,
         is_recording,
         peer_as_is_free: is_of_another(peer),
         own_faults,
+        other_orders,
     }
 }
 
@@ -116,6 +118,8 @@ struct Asking<'a> {
     peer: Endpoint,
     /// Where the records stand.
     places: Places<'a>,
+    /// What is said of other orders.
+    instead: OtherOrders,
 }
 
 /// The own faults of the first OPEN that these records show as sent, up to the one after so many.
@@ -140,12 +144,19 @@ fn explained<A: Allocator + Copy, T: Tracker<A>>(
 ) -> Result<Reason<A>, AllocError>
     ensures { (session : TheSession) → IfOk result (λ reason. IsToldAs session asking.now.sent
         asking.now.first (are_shown asking.now.places) asking.now.peer
-        (places_of asking.now.places) (map shown_of records.now) judged.now.peer_as
+        (places_of asking.now.places) asking.now.instead (map shown_of records.now)
+        judged.now.peer_as
         judged.now.under own_faults (deed_text reason) (lines_text reason)) }
 {
     let (first, places) = (asking.first, asking.places);
     let telling = Telling {
-        style: style_of(first, are_shown(places), judged.peer_as, own_faults),
+        style: style_of(
+            first,
+            are_shown(places),
+            judged.peer_as,
+            own_faults,
+            asking.instead,
+        ),
         sent: asking.sent,
         peer: asking.peer,
         another: another_of(judged.peer_as),
@@ -169,7 +180,7 @@ fn reason_for<A: Allocator + Copy, T: Tracker<A>>(
         (verdict_value judged.now.verdict)
         → IfOk result (λ reason. IsReasonOf session asking.now.sent asking.now.first
         (are_shown asking.now.places) asking.now.peer (places_of asking.now.places)
-        (map shown_of records.now) judged.now.peer_as judged.now.under
+        asking.now.instead (map shown_of records.now) judged.now.peer_as judged.now.under
         (verdict_value judged.now.verdict) (deed_text reason) (lines_text reason)) }
 {
     a_verdict_holds_under_its_configuration();
@@ -186,7 +197,8 @@ fn reason_for<A: Allocator + Copy, T: Tracker<A>>(
 /// Returns why the verdict on an end's records is a no or unfinished: what `bgp judge --explain`
 /// says of them under the configuration under which the verdict is told, each with its place. The
 /// text of a message that was sent goes by the limit of its receiver. The session's first record
-/// has that second. After a yes, and of an end that isn't judged, it is nothing.
+/// has that second, and this is said of other orders. After a yes, and of an end that isn't judged,
+/// it is nothing.
 ///
 /// `AllocError` is answered if memory runs out.
 pub fn reason_of<A: Allocator + Copy, T: Tracker<A>>(
@@ -195,6 +207,7 @@ pub fn reason_of<A: Allocator + Copy, T: Tracker<A>>(
     first: Seconds,
     peer: &Endpoint,
     places: Places<'_>,
+    instead: OtherOrders,
     records: &[Record<'_>],
     answer: &Answer<A>,
 ) -> Result<Reason<A>, AllocError>
@@ -203,7 +216,7 @@ pub fn reason_of<A: Allocator + Copy, T: Tracker<A>>(
     ensures { (session : TheSession)
         → IsAnswerTo session (map shown_of records.now) (answer_value answer.now)
         → IfOk result (λ reason. IsReasonTo session sent first (are_shown places.entry) peer.now
-        (places_of places.entry) (map shown_of records.now) (answer_value answer.now)
+        (places_of places.entry) instead (map shown_of records.now) (answer_value answer.now)
         (deed_text reason) (lines_text reason)) }
 {
     let asking = Asking {
@@ -211,6 +224,7 @@ pub fn reason_of<A: Allocator + Copy, T: Tracker<A>>(
         first,
         peer: *peer,
         places,
+        instead,
     };
     match answer {
         Answer::NotJudged(_) => Ok(Reason::nothing(alloc)),

@@ -35,7 +35,10 @@ use Rattle.bgp_check_tool.specs.Elsewhere.{IsOther, in_made}
 use Rattle.bgp_wire.specs.declared.header.Limit.{Limit}
 use Rattle.bgp_why.specs.declared.endpoint.Endpoint.{Endpoint as PeerEnd}
 use Rattle.bgp_why.specs.declared.place.Place.{Place}
+use Rattle.bgp_check_tool.specs.Instead.{AreInstead}
 use Rattle.bgp_check_tool.specs.Place.{second_at}
+use Rattle.bgp_why.specs.declared.other_orders.OtherOrders.{OtherOrders}
+use Rattle.bgp_why.specs.declared.other_orders.OtherOrders.TheVariants.{Unasked}
 use Rattle.bgp_check_tool.proofs.Stretch.{stretch_of}
 use Rattle.bgp_check_tool.proofs.WayRecords.{front_is_stretch}
 
@@ -171,11 +174,17 @@ module _ (session : Session) (sent : Limit) (peer : PeerEnd) (records : List Sho
   pub nothing_other : (found : Option NoOrder) (its : Option Place) (text : Option (List ℕ)) → found ≡ None → text ≡ None → IsOther session sent peer records found its text
   nothing_other found its text none no_text = subst (λ (f : Option NoOrder). IsOther session sent peer records f its text) (sym none) no_text
 
-  pub reason_so : (first : ℕ) (places : ℕ → ℕ → Place) (answer : AnswerValue) (deed deed' lines lines' : List ℕ) → deed ≡ deed' → lines ≡ lines'
-      → IsReasonTo session sent first true peer places records answer deed' lines' → IsReasonTo session sent first true peer places records answer deed lines
-  reason_so first places answer deed deed' lines lines' same_deed same_lines is =
-      subst (λ (d : List ℕ). IsReasonTo session sent first true peer places records answer d lines) (sym same_deed)
-      (subst (λ (l : List ℕ). IsReasonTo session sent first true peer places records answer deed' l) (sym same_lines) is)
+  pub reason_so : (first : ℕ) (places : ℕ → ℕ → Place) (instead : OtherOrders) (answer : AnswerValue) (deed deed' lines lines' : List ℕ) → deed ≡ deed' → lines ≡ lines'
+      → IsReasonTo session sent first true peer places instead records answer deed' lines' → IsReasonTo session sent first true peer places instead records answer deed lines
+  reason_so first places instead answer deed deed' lines lines' same_deed same_lines is =
+      subst (λ (d : List ℕ). IsReasonTo session sent first true peer places instead records answer d lines) (sym same_deed)
+      (subst (λ (l : List ℕ). IsReasonTo session sent first true peer places instead records answer deed' l) (sym same_lines) is)
+
+-- what is said of other orders
+pub nothing_instead : (within : ℕ) (framings : Framings) (connection : Connection) (entries : List Entry) (answer : AnswerValue) (found : Option NoOrder) → found ≡ None
+    → AreInstead within framings connection entries answer found Unasked
+nothing_instead within framings connection entries answer found none =
+    subst (λ (f : Option NoOrder). AreInstead within framings connection entries answer f Unasked) (sym none) refl
 
 -- how far the session came
 pub reached_so : (records : List ShownRecord) (answer : AnswerValue) (reached reached' : ReachedValue) → reached ≡ reached' → IsReached records answer reached' → IsReached records answer reached
@@ -199,10 +208,11 @@ pub told_so : (options : CheckOptions) (asked : Asked) (end : Endpoint) (session
     → IsOther session framings.sent.limit (peer_end session connection) (records_of entries) told.found told.in_made told.other → told.first ≡ second_at entries 0
     → told.put_off ≡ put_off 0 entries → told.within ≡ options.within
     → IsLate session connection its told.late → IsReached (records_of entries) its told.reached
-    → IsReasonTo session framings.sent.limit (second_at entries 0) true (peer_end session connection) (shown_places entries) (records_of entries) answer told.deed told.reason
+    → (instead : OtherOrders) → AreInstead options.within framings connection entries answer told.found instead
+    → IsReasonTo session framings.sent.limit (second_at entries 0) true (peer_end session connection) (shown_places entries) instead (records_of entries) answer told.deed told.reason
     → told.received ≡ received → told.sent ≡ sent
     → IsTold options asked end session connection told
-told_so options asked end session connection framings entries received sent told answer its same answers are_of is_end is_number is_found is_place is_other is_first is_put_off is_within is_late is_reached explains
+told_so options asked end session connection framings entries received sent told answer its same answers are_of is_end is_number is_found is_place is_other is_first is_put_off is_within is_late is_reached instead are_instead explains
     is_received is_sent =
     record {
       entries = entries;
@@ -222,6 +232,8 @@ told_so options asked end session connection framings entries received sent told
       is_within = is_within;
       is_late = subst (λ (a : AnswerValue). IsLate session connection a told.late) (sym same) is_late;
       is_reached = subst (λ (a : AnswerValue). IsReached (records_of entries) a told.reached) (sym same) is_reached;
+      instead = instead;
+      are_instead = are_instead;
       explains = explains;
       is_received = is_received;
       is_sent = is_sent;

@@ -14,7 +14,8 @@ use Rattle.bgp_check_text.specs.SentDeed.{IsSentDeed, IsSentForm}
 use Rattle.bgp_why.specs.declared.endpoint.Endpoint.{Endpoint}
 use Rattle.bgp_why.specs.declared.place.Place.{Place}
 use Rattle.bgp_check_tool.specs.declared.orders.NoOrder.{NoOrder}
-use Rattle.bgp_check_tool.specs.Place.{is_message_at, place_at}
+use Rattle.bgp_instead.specs.MessageAt.{is_message_at}
+use Rattle.bgp_check_tool.specs.Place.{place_at}
 
 -- ---- where it stands
 

@@ -6,6 +6,7 @@ pub mod Another
 pub mod Late
 pub mod Place
 pub mod Elsewhere
+pub mod Instead
 pub mod Told
 pub mod Text
 pub mod Blocks

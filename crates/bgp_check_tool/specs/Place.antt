@@ -1,7 +1,7 @@
 -- Where a record of a recording stands: the packet that shows it, and the time of that.
-use Rattle.std.specs.Prelude.{◌+◌, ◌-◌, ◌==◌, ◌&&◌, ℕ, Bool, true, false, List, Option, None, Some}
-use Rattle.std.specs.Prelude.{count_by, length, option_map, slice_get, take, unwrap_or}
-use Rattle.bgp_prefix.specs.Shown.{Changed, Received, Sent, ShownRecord, second_of}
+use Rattle.std.specs.Prelude.{◌+◌, ◌-◌, ℕ, List, Option, None, Some}
+use Rattle.std.specs.Prelude.{length, option_map, slice_get, unwrap_or}
+use Rattle.bgp_prefix.specs.Shown.{second_of}
 use Rattle.mrt.specs.Reader.{shown_of}
 use Rattle.bgp_recording.specs.declared.entry.Entry.{Entry}
 use Rattle.bgp_explain.specs.Places.{entry_place, place_with}
@@ -36,17 +36,3 @@ sent_place found = record {
   second = found.message.second;
   micro = found.message.micro;
 }
-
-abbrev pub is_sent : ShownRecord → Bool
-is_sent (Received second octets) = false
-is_sent (Sent second octets) = true
-is_sent (Changed second old new) = false
-
-abbrev pub sends : Entry → Bool
-sends entry = is_sent (shown_of entry.«record»)
-
--- the record after so many is the sent message before which so many sent ones stand
-abbrev pub is_message_at : List Entry → ℕ → ℕ → Bool
-is_message_at entries count before =
-    unwrap_or (option_map sends (slice_get entries count)) false
-    && (count_by sends (take count entries) == before)

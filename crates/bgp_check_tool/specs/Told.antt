@@ -27,12 +27,14 @@ use Rattle.bgp_check_tool.specs.declared.another.Order.{Order}
 use Rattle.bgp_check_tool.specs.declared.another.Order.TheVariants as orders
 use Rattle.bgp_check_tool.specs.Another.{IsNo, IsNoYes, IsYes, number_in}
 use Rattle.bgp_check_tool.specs.Judging.{AreOptionsTo}
+use Rattle.bgp_check_tool.specs.Instead.{AreInstead}
 use Rattle.bgp_check_tool.specs.Late.{IsLate}
 use Rattle.bgp_check_tool.specs.declared.late.Late.{Late}
 use Rattle.bgp_check_tool.specs.declared.orders.NoOrder.{NoOrder}
 use Rattle.bgp_check_tool.specs.Elsewhere.{IsOther, in_made, no_place, octets_if}
 use Rattle.bgp_check_tool.specs.Place.{last_place, place_at, second_at, sent_place}
 use Rattle.bgp_why.specs.declared.endpoint.Endpoint.{Endpoint as PeerEnd}
+use Rattle.bgp_why.specs.declared.other_orders.OtherOrders.{OtherOrders}
 use Rattle.bgp_why.specs.declared.place.Place.{Place}
 use Rattle.bgp_check_tool.specs.Made.{IsMade}
 use Rattle.bgp_check_tool.specs.Orders.{IsFoundTo, IsUnfinished}
@@ -162,8 +164,8 @@ module _ (options : CheckOptions) (asked : Asked) (session : Session) (connectio
     pub no_judge : told.judge ≡ None
 
 -- This is told of the end at this address and port, of this session, that has the connection so:
--- what is answered of its records, or over all orders, and why; of a no the first sent message that
--- no order explains, if one is known; what the answer becomes, where a message may be handled as
+-- what is answered of its records, or over all orders, and why, with what is said of other orders; of
+-- a no the first sent message that no order explains, if one is known; what the answer becomes, where a message may be handled as
 -- late as it can be said; the line of a message that it sent goes by the limit of its receiver. And
 -- how `bgp judge` gives it, where the connection is asked for so.
 pub record IsTold (options : CheckOptions) (asked : Asked) (end : Endpoint) (session : Session)
@@ -191,9 +193,11 @@ pub record IsTold (options : CheckOptions) (asked : Asked) (end : Endpoint) (ses
   pub is_within : told.within ≡ options.within
   pub is_late : IsLate session connection told.answer told.late
   pub is_reached : IsReached (records_of entries) told.answer told.reached
+  pub instead : OtherOrders
+  pub are_instead : AreInstead options.within framings connection entries answer told.found instead
   pub explains : IsReasonTo session framings.sent.limit (second_at entries 0) true
-      (peer_end session connection) (shown_places entries) (records_of entries) answer told.deed
-      told.reason
+      (peer_end session connection) (shown_places entries) instead (records_of entries) answer
+      told.deed told.reason
   pub is_received : told.received ≡ received_unshown
   pub is_sent : told.sent ≡ sent_unshown
 

@@ -25,6 +25,7 @@ ghost use Rattle.bgp_watch.specs.Front.{front_value};
 
 use crate::another::{AnotherOrder, Order, Searched, search_orders};
 use crate::elsewhere::{in_made, no_place, other_deed};
+use crate::instead::instead_of;
 use crate::judging::options_to;
 use crate::late::{Late, late_of};
 use crate::making::Made;
@@ -39,7 +40,7 @@ use bgp_judge::{Tracker, Verdict};
 use bgp_prefix::{Seconds, Session};
 use bgp_recording::{Entry, Framings, Recording, Unshown};
 use bgp_watch::Front;
-use bgp_why::{Endpoint as PeerEnd, Place};
+use bgp_why::{Endpoint as PeerEnd, OtherOrders, Place};
 use segments::Endpoint;
 use std::alloc::{AllocError, Allocator};
 use streams::Connection;
@@ -203,12 +204,13 @@ pub(crate) fn peer_end(session: &Session, connection: &Connection<'_>) -> PeerEn
     }
 }
 
-/// Why this is answered of these records.
+/// Why this is answered of these records, with this of other orders.
 fn reason_on<A: Allocator + Copy, T: Tracker<A>>(
     alloc: A,
     viewed: &Viewed<'_>,
     framings: Framings,
     recording: &Recording<'_, A>,
+    instead: OtherOrders,
     answer: &Answer<A>,
 ) -> Result<Reason<A>, AllocError>
     requires records { map shown_of recording.now.records.items
@@ -218,8 +220,9 @@ fn reason_on<A: Allocator + Copy, T: Tracker<A>>(
     ensures { IfOk result (λ reason. IsReasonTo viewed.now.session framings.sent.limit
         (second_at recording.now.entries.items 0) true
         (peer_end viewed.now.session viewed.now.connection)
-        (shown_places recording.now.entries.items) (records_of recording.now.entries.items)
-        (answer_value answer.now) (deed_text reason) (lines_text reason)) }
+        (shown_places recording.now.entries.items) instead
+        (records_of recording.now.entries.items) (answer_value answer.now) (deed_text reason)
+        (lines_text reason)) }
 {
     let _viewed = *viewed;
     let records = recording.records.as_slice();
@@ -228,7 +231,7 @@ fn reason_on<A: Allocator + Copy, T: Tracker<A>>(
     let places = Places::Shown(entries);
     let peer = peer_end(&viewed.session, &viewed.connection);
     let sent = framings.sent.limit;
-    let reason = reason_of::<A, T>(alloc, sent, first, &peer, places, records, answer)?;
+    let reason = reason_of::<A, T>(alloc, sent, first, &peer, places, instead, records, answer)?;
     Ok(reason)
 }
 
@@ -347,21 +350,23 @@ pub(crate) fn told_by<'a, A: Allocator + Copy, T: Tracker<A>>(
     let watched = watch_end::<A, T>(alloc, &viewed.session, records)?;
     let answer = watched.answer;
     let before = watched.before;
+    let unasked = OtherOrders::Unasked;
     match search_orders::<A, T>(alloc, viewed, framings, &answer) {
         Searched::Nothing => {
             let reached = reached_on::<A, T>(alloc, recording, &answer, before)?;
-            let reason = reason_on::<A, T>(alloc, viewed, framings, recording, &answer)?;
+            let reason = reason_on::<A, T>(alloc, viewed, framings, recording, unasked, &answer)?;
             let beside = Beside::of_made::<T>(alloc, viewed, made, &answer, None)?;
             Ok(told_of(viewed, recording, answer, reached, reason, beside))
         }
         Searched::NoOrder(found) => {
+            let instead = instead_of(alloc, viewed, made, &answer, &found);
             let reached = reached_on::<A, T>(alloc, recording, &answer, before)?;
-            let reason = reason_on::<A, T>(alloc, viewed, framings, recording, &answer)?;
+            let reason = reason_on::<A, T>(alloc, viewed, framings, recording, instead, &answer)?;
             let beside = Beside::of_made::<T>(alloc, viewed, made, &answer, Some(found))?;
             Ok(told_of(viewed, recording, answer, reached, reason, beside))
         }
         Searched::Unfinished(its) => {
-            let reason = reason_on::<A, T>(alloc, viewed, framings, recording, &answer)?;
+            let reason = reason_on::<A, T>(alloc, viewed, framings, recording, unasked, &answer)?;
             let in_made = no_place(entries, &answer);
             let answer = unfinished(number_in(&answer), its);
             let reached = reached_on::<A, T>(alloc, recording, &answer, None)?;
@@ -372,7 +377,7 @@ pub(crate) fn told_by<'a, A: Allocator + Copy, T: Tracker<A>>(
         Searched::Another(another) => {
             let AnotherOrder { recording, answer } = another;
             let reached = reached_on::<A, T>(alloc, &recording, &answer, None)?;
-            let reason = reason_on::<A, T>(alloc, viewed, framings, &recording, &answer)?;
+            let reason = reason_on::<A, T>(alloc, viewed, framings, &recording, unasked, &answer)?;
             let beside = Beside::of_others(Order::Another, None, None);
             Ok(told_of(viewed, &recording, answer, reached, reason, beside))
         }

@@ -17,6 +17,7 @@ mod counted;
 mod elsewhere;
 mod ending;
 mod headline;
+mod instead;
 mod judging;
 mod late;
 mod laws;

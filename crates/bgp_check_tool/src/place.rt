@@ -1,10 +1,9 @@
 //! Where a record of a recording stands.
 
-ghost use Rattle.std.specs.Prelude.{◌≡◌, count_by, option_map};
+ghost use Rattle.std.specs.Prelude.{◌≡◌, option_map};
 ghost use Rattle.bgp_prefix.specs.Shown.{second_of};
 ghost use Rattle.mrt.specs.Reader.{shown_of};
-ghost use Rattle.bgp_check_tool.specs.Place.{is_message_at, last_place, place_at};
-ghost use Rattle.bgp_check_tool.specs.Place.{second_at, sends, sent_place};
+ghost use Rattle.bgp_check_tool.specs.Place.{last_place, place_at, second_at, sent_place};
 
 use crate::orders::NoOrder;
 use bgp_explain::entry_place;
@@ -64,39 +63,5 @@ pub(crate) fn sent_place(found: &NoOrder<'_>) -> Place
         packet: Some(found.unexplained.packet),
         second: found.message.second,
         micro: found.message.micro,
-    }
-}
-
-/// Checks whether a record is that of a message that was sent.
-fn sends(entry: &Entry<'_>) -> bool
-    ensures { result ≡ sends entry.now }
-{
-    match entry.record {
-        Record::Out(..) => true,
-        Record::In(..) | Record::Change(..) => false,
-    }
-}
-
-/// Counts the messages that were sent.
-fn count_sent(entries: &[Entry<'_>]) -> usize
-    ensures { result ≡ count_by sends entries.now }
-{
-    let mut count = 0;
-    for entry in entries {
-        if sends(entry) {
-            count += 1;
-        }
-    }
-    count
-}
-
-/// Checks whether the record after so many is the sent message before which so many sent ones
-/// stand.
-pub(crate) fn is_message_at(entries: &[Entry<'_>], count: usize, before: usize) -> bool
-    ensures { result ≡ is_message_at entries.now count before }
-{
-    match entries.get(count) {
-        Some(entry) => sends(entry) && count_sent(&entries[..count]) == before,
-        None => false,
     }
 }

@@ -28,6 +28,8 @@ use Rattle.bgp_tool.specs.declared.session_options.SessionOptions.{SessionOption
 use Rattle.bgp_tool.specs.declared.stream_options.StreamOptions.{StreamOptions}
 use Rattle.bgp_json.specs.declared.output_form.OutputForm.{OutputForm}
 use Rattle.bgp_tool.specs.declared.opened.Outcome.{Outcome}
+use Rattle.bgp_verdict_lines.specs.declared.form.VerdictForm.{VerdictForm}
+use Rattle.bgp_verdict_lines.specs.declared.form.VerdictForm.TheVariants as verdicts
 use Rattle.bgp_explain.specs.declared.report.Report.{Report}
 use Rattle.bgp_explain.specs.declared.report.Report.TheVariants.{VerdictAlone, WithReason}
 use Rattle.bgp_import.specs.Imports.{Imports}
@@ -80,7 +82,7 @@ session_options form session = record { session = session; form = form }
 abbrev pub file_of : Command → Bor (List ℕ)
 file_of (words.Decode form extended file) = file
 file_of (words.Capture form session recording file) = file
-file_of (words.Judge config recording explain file) = file
+file_of (words.Judge config recording reporting file) = file
 file_of (words.Import session recording file out) = file
 file_of (words.List port json file) = file
 file_of (words.Check checking file) = file
@@ -91,7 +93,7 @@ file_of (words.Pair file) = file
 abbrev pub reads_file : Command → Bool
 reads_file (words.Decode form extended file) = true
 reads_file (words.Capture form session recording file) = true
-reads_file (words.Judge config recording explain file) = true
+reads_file (words.Judge config recording reporting file) = true
 reads_file (words.Import session recording file out) = true
 reads_file (words.List port json file) = true
 reads_file (words.Check checking file) = true
@@ -102,7 +104,7 @@ reads_file (words.Pair file) = false
 abbrev pub IsOneName : Command → Type 0
 IsOneName (words.Decode form extended file) = ⊥
 IsOneName (words.Capture form session recording file) = ⊥
-IsOneName (words.Judge config recording explain file) = ⊥
+IsOneName (words.Judge config recording reporting file) = ⊥
 IsOneName (words.Import session recording file out) =
     (file.now ≡ out.now) × (file.now ≢ codes "-")
 IsOneName (words.List port json file) = ⊥
@@ -117,6 +119,9 @@ list_form json = if json then Json else Text
 
 abbrev pub report_with : Bool → Report
 report_with explain = if explain then WithReason else VerdictAlone
+
+abbrev pub form_with : Bool → VerdictForm
+form_with json = if json then verdicts.Json else verdicts.Text
 
 abbrev pub settings_with : Bool → Settings
 settings_with settings = if settings then Always else Never
@@ -325,10 +330,10 @@ module _ {R W X : Type 0} (may_lack : Config → List ShownRecord → ShownRecor
       × ((answer ≡ answers.Read outcome)
       × DecodesFile remaining contents recording file reader old new outcome
       (session_options form session))
-  Answers (words.Judge config recording explain file) = (outcome : FileOutcome X)
+  Answers (words.Judge config recording reporting file) = (outcome : FileOutcome X)
       × ((answer ≡ answers.Read outcome)
       × JudgesFile remaining contents recording file reader old new outcome config
-      (report_with explain) may_lack)
+      (report_with reporting.explain) (form_with reporting.json) may_lack)
   Answers (words.Import session recording file out) = (imported : Imported) × ((to : Destination)
       × ((ends : Ends) × ((answer ≡ answers.Imported imported to ends) × IsDestination out to
       × ImportsFile remaining contents file reader old new session recording imported ends)))

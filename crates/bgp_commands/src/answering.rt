@@ -5,7 +5,7 @@ ghost use Rattle.mrt.specs.FromWrite.{writer_state};
 ghost use Rattle.bgp_tool.specs.Opened.{DecodesReader};
 ghost use Rattle.bgp_recording_tool.specs.Files.{DecodesFile, JudgesFile};
 ghost use Rattle.bgp_words.specs.Import.{CanImport};
-ghost use Rattle.bgp_commands.specs.Answers.{Answers, AnswersTo, IsOneName, report_with};
+ghost use Rattle.bgp_commands.specs.Answers.{Answers, AnswersTo, IsOneName, form_with, report_with};
 ghost use Rattle.bgp_commands.specs.Answers.{session_options, stream_options};
 ghost use Rattle.bgp_commands.specs.Answers as specs;
 ghost use Rattle.bgp_commands.specs.Sentences.{sentences_of, status_of};
@@ -24,8 +24,9 @@ use bgp_open::Config;
 use bgp_prefix::Session;
 use bgp_recording_tool::{FileOutcome, decode_file, judge_file};
 use bgp_tool::{Outcome, Ready, SessionOptions, StreamOptions, decode_opened, unopened};
+use bgp_verdict_lines::VerdictForm;
 use bgp_wire::Limit;
-use bgp_words::Command;
+use bgp_words::{Command, Reporting};
 use mrt::FromWrite;
 use std::alloc::Allocator;
 use std::io;
@@ -149,10 +150,10 @@ fn answer_from<'a, A: Allocator + Copy, T: Tracker<A>, R: Read + Ready + Drop, W
         Command::Judge {
             config,
             recording,
-            explain,
+            reporting,
             file,
         } => Answer::Read(judge::<A, T, R, W>(
-            alloc, &config, &recording, explain, file, reader, sink,
+            alloc, &config, &recording, reporting, file, reader, sink,
         )),
         Command::Import {
             session,
@@ -209,22 +210,32 @@ fn decode_session<'a, A: Allocator + Copy, R: Read + Ready + Drop, W: Write>(
     decode_file(alloc, &options, recording, file, Ok(reader), sink)
 }
 
-/// Judges one session, with the reason or without.
+/// Judges one session, with the reason or without, as text or in JSON.
 fn judge<'a, A: Allocator + Copy, T: Tracker<A>, R: Read + Drop, W: Write>(
     alloc: A,
     config: &Config,
     recording: &RecordingOptions,
-    explain: bool,
+    reporting: Reporting,
     file: &'a str,
     reader: R,
     sink: &mut FromWrite<W>,
 ) -> FileOutcome<'a, A>
     requires { (writer_state sink.old).failures < 2 ^ 63 }
     ensures { JudgesFile R.remaining W.contents recording.now file.entry reader sink.old sink.new
-        result config.now (report_with explain) T.may_lack }
+        result config.now (report_with reporting.explain) (form_with reporting.json) T.may_lack }
 {
-    let report = report_with(explain);
-    judge_file::<A, T, R, W>(alloc, config, report, recording, file, Ok(reader), sink)
+    let report = report_with(reporting.explain);
+    let form = form_with(reporting.json);
+    judge_file::<A, T, R, W>(
+        alloc,
+        config,
+        report,
+        form,
+        recording,
+        file,
+        Ok(reader),
+        sink,
+    )
 }
 
 /// Returns what is reported, with the reason or without.
@@ -235,5 +246,16 @@ fn report_with(explain: bool) -> Report
         Report::WithReason
     } else {
         Report::VerdictAlone
+    }
+}
+
+/// Returns the form in which a verdict is told.
+fn form_with(json: bool) -> VerdictForm
+    ensures { result ≡ form_with json }
+{
+    if json {
+        VerdictForm::Json
+    } else {
+        VerdictForm::Text
     }
 }

@@ -1,5 +1,5 @@
 -- What a record lacks, and an UPDATE asks for, is what is told of it.
-use Rattle.std.proofs.Common.{◌≡◌, List, ℕ, refl, ap}
+use Rattle.std.proofs.Common.{◌≡◌, ◌++◌, List, ℕ, refl, ap}
 use Rattle.std.specs.Prelude.{Option}
 use Rattle.bgp_prefix.specs.Shown.{ShownRecord, Received, Sent, Changed}
 use Rattle.bgp_open.specs.declared.config.Config.{Config}
@@ -15,11 +15,12 @@ use Rattle.bgp_why.specs.declared.style.Style.{Style}
 use Rattle.bgp_why.specs.Applying.{last_update_line}
 use Rattle.bgp_why.specs.Deed.{cause_text}
 use Rattle.bgp_why.specs.Lacks.{AreLacks, AreSentLacks}
-use Rattle.bgp_why.specs.Possible.{possible_but_lines}
+use Rattle.bgp_why.specs.Possible.{other_lines, possible_but_lines}
 use Rattle.bgp_explain.specs.Lacked.{RecordLacks, SentLacks, following_lines, lacked_cause, lacked_of}
 use Rattle.bgp_explain.specs.Updates.{asking_of, update_line}
 
-pub same_lines : {X : Type 0} (style : Style) (p : Possible) (v : Lacks X) → possible_but_lines style p v ≡ following_lines style p (lacked_of v)
+pub same_lines : {X : Type 0} (style : Style) (p : Possible) (v : Lacks X)
+    → possible_but_lines style p v ≡ following_lines style p (lacked_of v) ++ other_lines style.first p style.other_orders
 same_lines style p lacks.Nothing = refl
 same_lines style p (lacks.Open parts) = refl
 same_lines style p (lacks.Update parts) = refl

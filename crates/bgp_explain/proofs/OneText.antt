@@ -45,6 +45,7 @@ use Rattle.bgp_why.specs.MessageLine.{message_line}
 use Rattle.bgp_why.specs.NoteLines.{note_lines}
 use Rattle.bgp_why.specs.Notes.{judged_without}
 use Rattle.bgp_why.specs.NotWhole.{not_whole_line}
+use Rattle.bgp_why.specs.Possible.{other_lines}
 use Rattle.bgp_why.specs.State.{already_line, state_line}
 use Rattle.bgp_explain.specs.declared.left_out.LeftOut.{LeftOut}
 use Rattle.bgp_explain.specs.declared.moments.Moments.{Moments}
@@ -295,7 +296,8 @@ module _ (config : Config) (places : ℕ → ℕ → Place) (t : Told) (m : Mome
 
 may_come_once : (style : Style) (p : Possible) (next : Option (ℕ × ShownRecord)) (a b : Lacked) → IsAlike a b → may_come style next p a ≡ may_come style next p b
 may_come_once style p None a b is = refl
-may_come_once style p (Some next) a b is = alike_lines p style a b is
+may_come_once style p (Some next) a b is =
+    ap (λ (lines : List ℕ). lines ++ other_lines style.first p style.other_orders) (alike_lines p style a b is)
 
 module _ (sets : SubcodesAreSets) (config : Config) where
   one_is_why : (style : Style) (session : Session) (another : Option ℕ) (places : ℕ → ℕ → Place) (t : Told) (m : Moments) (link : Option Link) (u : LeftOut) (octets : List ℕ)

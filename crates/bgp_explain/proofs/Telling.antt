@@ -34,7 +34,9 @@ use Rattle.bgp_why.specs.declared.style.Style.{Style}
 use Rattle.bgp_why.specs.Deed.{peer_of}
 use Rattle.bgp_why.specs.Style.{plain}
 use Rattle.bgp_text.specs.Capture.{refused_line}
-use Rattle.bgp_tool.specs.Answer.{IsWritten, answer_status, answer_text, verdict_status}
+use Rattle.bgp_tool.specs.Answer.{answer_status, answer_text, verdict_status}
+use Rattle.bgp_verdict_lines.specs.Printed.{IsWrittenIn}
+use Rattle.bgp_verdict_lines.specs.declared.form.VerdictForm.{VerdictForm}
 use Rattle.bgp_tool.specs.Judging.{TellsFault}
 use Rattle.bgp_tool.specs.VerdictText.{verdict_text}
 use Rattle.bgp_explain.specs.declared.explained.Explained.{Explained}
@@ -436,12 +438,12 @@ same_lacking (suc code) seen records shows =
     let no = eqb-suc-zero code in ap (λ (b : Bool). lacking_by b seen) no ∙ sym (ap (λ (b : Bool). lacking_by b (seen_in records)) no)
 
 -- What was read by a reader of captures, and what is told of it.
-module _ {R W : Type 0} (takes : W → W → List ℕ → Type 0) (failures : W → ℕ) (gives : R → R → List ℕ → Type 0)
+module _ {R W : Type 0} (form : VerdictForm) (takes : W → W → List ℕ → Type 0) (failures : W → ℕ) (gives : R → R → List ℕ → Type 0)
     (has_ended : R → Bool) (counts : R → ℕ) (config : Config) (source source' : R)
     (may_lack : Config → List ShownRecord → ShownRecord → Type 0) (sink sink' : W) where
   pub record ToldOf (reader : ReaderState) (status : ℕ) (first : List ℕ) (refused : Option CaptureFault) (seen : Seen) (confederation : Bool) (left_out : LeftOut) : Type 0 where
     pub read : ReadBy gives config.parts.session source source' reader
-        (λ given. ExplainsCapture given has_ended takes counts failures config source source' may_lack sink sink' status)
+        (λ given. ExplainsCapture form given has_ended takes counts failures config source source' may_lack sink sink' status)
     pub ends : EndsBy read.pieces read.rest (fault_told read.holds.answer)
     pub front : first ≡ kept (joined read.pieces ++ read.rest)
     pub fault : refused ≡ fault_told read.holds.answer
@@ -450,7 +452,7 @@ module _ {R W : Type 0} (takes : W → W → List ℕ → Type 0) (failures : W 
     pub is_left_out : IsLeftOutBy config read.holds.code (records_of read.pieces) left_out
 
 -- And it is told of just the octets of which a reader of captures knows all pieces.
-module _ {F R W : Type 0} (view : F → R) (takes : W → W → List ℕ → Type 0) (failures : W → ℕ) (gives : R → R → List ℕ → Type 0)
+module _ {F R W : Type 0} (view : F → R) (form : VerdictForm) (takes : W → W → List ℕ → Type 0) (failures : W → ℕ) (gives : R → R → List ℕ → Type 0)
     (has_ended : R → Bool) (counts : R → ℕ) (config : Config) (source source' : F)
     (may_lack : Config → List ShownRecord → ShownRecord → Type 0) (sink sink' : W) where
   told_in : {X Y : Type 0} (given : R → R → List ℕ → Type 0) (answer : Result (Verdict X) CaptureFault) (why : Option (Reason Y)) (detailed : Bool) (totals : Totals) (more text : List ℕ)
@@ -537,9 +539,9 @@ module _ {F R W : Type 0} (view : F → R) (takes : W → W → List ℕ → Typ
       → ReadsWith (λ from to some. gives (view from) (view to) some × (front_of to ≡ kept (front_of from ++ some))) config.parts.session source source' reader
       (fault_in explained.answer) (λ given. Explains given (λ state. has_ended (view state)) config source source' may_lack explained)
       → counts (view source') ≡ counts (view source) + failures_of explained.answer
-      → (text : List ℕ) × (detailed : Bool) × IsExplainedText config explained detailed text × IsWritten takes failures text (answer_status explained.answer) sink sink' status
+      → (text : List ℕ) × (detailed : Bool) × IsExplainedText config explained detailed text × IsWrittenIn form takes failures text (answer_status explained.answer) sink sink' status
       → refused ≡ fault_in explained.answer
-      → ToldOf takes failures gives has_ended counts config (view source) (view source') may_lack sink sink' reader status (front_of source') refused
+      → ToldOf form takes failures gives has_ended counts config (view source) (view source') may_lack sink sink' reader status (front_of source') refused
       explained.totals.seen (confederation_in explained.answer explained.totals) (left_out_in explained.answer explained.totals)
   explains_read front_of reader explained status refused nothing (by, ends) counted (text, detailed, said, wrote) is =
       let code = answer_status explained.answer in
@@ -617,13 +619,13 @@ module _ {S : Type 0} (has_ended : S → Bool) (config : Config) (source new : S
   }
   explains_given (Err fault) why totals is = (refusal_given fault is.0, is.1)
 
-module _ {R W : Type 0} (takes : W → W → List ℕ → Type 0) (failures : W → ℕ) (gives : R → R → List ℕ → Type 0) (has_ended : R → Bool) (counts : R → ℕ)
+module _ {R W : Type 0} (form : VerdictForm) (takes : W → W → List ℕ → Type 0) (failures : W → ℕ) (gives : R → R → List ℕ → Type 0) (has_ended : R → Bool) (counts : R → ℕ)
     (config : Config) (source source' : R) (may_lack : Config → List ShownRecord → ShownRecord → Type 0) (sink sink' : W) where
   pub explains_capture : {X : Type 0} (reader : ReaderState) (explained : Explained X) (status : ℕ)
       → ReadsWith gives config.parts.session source source' reader (fault_in explained.answer) (λ given. Explains given has_ended config source source' may_lack explained)
       → counts source' ≡ counts source + failures_of explained.answer
-      → (text : List ℕ) × (detailed : Bool) × IsExplainedText config explained detailed text × IsWritten takes failures text (answer_status explained.answer) sink sink' status
-      → ExplainsCapture gives has_ended takes counts failures config source source' may_lack sink sink' status
+      → (text : List ℕ) × (detailed : Bool) × IsExplainedText config explained detailed text × IsWrittenIn form takes failures text (answer_status explained.answer) sink sink' status
+      → ExplainsCapture form gives has_ended takes counts failures config source source' may_lack sink sink' status
   explains_capture reader explained status (by, ends) counted (text, detailed, said, wrote) = record {
     text = text;
     code = answer_status explained.answer;

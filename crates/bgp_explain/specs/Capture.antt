@@ -17,9 +17,10 @@ use Rattle.bgp_why.specs.declared.place.Place.{Place}
 use Rattle.bgp_why.specs.declared.style.Style.{Style}
 use Rattle.bgp_why.specs.Deed.{peer_of, record_line}
 use Rattle.bgp_why.specs.Style.{plain}
-use Rattle.bgp_tool.specs.Answer.{IsWritten}
 use Rattle.bgp_tool.specs.Judging.{SaysVerdict, TellsFault}
 use Rattle.bgp_tool.specs.Seen.{seen_in}
+use Rattle.bgp_verdict_lines.specs.Printed.{IsWrittenIn}
+use Rattle.bgp_verdict_lines.specs.declared.form.VerdictForm.{VerdictForm}
 use Rattle.bgp_explain.specs.declared.left_out.LeftOut.{LeftOut}
 use Rattle.bgp_explain.specs.LeftOut.{LeavesOut}
 use Rattle.bgp_explain.specs.declared.moments.Moments.{Moments}
@@ -162,9 +163,9 @@ pub record TellsVerdict {R : Type 0} (gives : R → R → List ℕ → Type 0) (
   pub counted : failures source' ≡ failures source
 
 -- The verdict is told and explained, or the fault is told, of which those of memory are the
--- tracker's; or the verdict is told without its reason. All of its text was written, if the sink
--- didn't fail, and then the status is its own; and else a beginning, and the status is 5.
-pub record ExplainsCapture {R W : Type 0} (gives : R → R → List ℕ → Type 0)
+-- tracker's; or the verdict is told without its reason. In this form all of its text was written, if
+-- the sink didn't fail, and then the status is its own; and else a beginning, and the status is 5.
+pub record ExplainsCapture {R W : Type 0} (form : VerdictForm) (gives : R → R → List ℕ → Type 0)
     (has_ended : R → Bool) (takes : W → W → List ℕ → Type 0) (source_failures : R → ℕ)
     (failures : W → ℕ) (config : Config) (source source' : R)
     (may_lack : Config → List ShownRecord → ShownRecord → Type 0) (sink sink' : W) (status : ℕ)
@@ -174,7 +175,7 @@ pub record ExplainsCapture {R W : Type 0} (gives : R → R → List ℕ → Type
   pub answer : TellsExplained gives has_ended source_failures config source source' text code
       ⊎ TellsFault gives has_ended source_failures config source source' may_lack text code
       ⊎ TellsVerdict gives has_ended source_failures config source source' text code
-  pub wrote : IsWritten takes failures text code sink sink' status
+  pub wrote : IsWrittenIn form takes failures text code sink sink' status
 
 -- ---- the laws
 

@@ -2,11 +2,10 @@
 use Rattle.std.specs.Prelude.{◌++◌, ℕ, List, [], Option, None, Some, codes}
 use Rattle.std.specs.Prelude.{slice_index_or}
 use Rattle.std.specs.Fmt.{decimal}
-use Rattle.bgp_prefix.specs.Text.{address_text}
 use Rattle.mrt.specs.Capture.{Piece, others_of}
 use Rattle.mrt.specs.Reader.{places_of}
 use Rattle.mrt.specs.Skipped.{skipped_in}
-use Rattle.mrt.specs.declared.record.Endpoints.{Endpoints}
+use Rattle.bgp_json_verdicts.specs.Lines.{ends_text}
 use Rattle.bgp_explain.specs.declared.skipped.Skipped.{Skipped}
 
 -- what is skipped of the pieces of a capture
@@ -18,17 +17,11 @@ skipped_of pieces = record {
 
 -- ---- the lines
 
--- the addresses of the first record of another session
-abbrev pub first_text : Option Endpoints → List ℕ
-first_text None = []
-first_text (Some ends) =
-    codes ", the first of --peer " ++ (address_text ends.peer ++ (codes " --local "
-    ++ address_text ends.local))
-
+-- the addresses of the first record of another session stand in it
 unfoldable pub sessions_line : Skipped → List ℕ
 sessions_line skipped =
     codes "  records of other sessions: " ++ (decimal skipped.counts.other_sessions
-    ++ (first_text (slice_index_or skipped.others 0 None) ++ codes "\n"))
+    ++ (ends_text (slice_index_or skipped.others 0 None) ++ codes "\n"))
 
 unfoldable pub kinds_line : Skipped → List ℕ
 kinds_line skipped =

@@ -23,7 +23,7 @@ use Rattle.bgp_why.specs.Message.{IsNamed}
 use Rattle.bgp_why.specs.NoteLines.{note_lines}
 use Rattle.bgp_why.specs.Notes.{AreEndNotes, AreNotes, judged_without}
 use Rattle.bgp_why.specs.NotWhole.{IsWhyNotSent, not_whole_line}
-use Rattle.bgp_why.specs.Possible.{possible_lines}
+use Rattle.bgp_why.specs.Possible.{other_lines, possible_lines}
 use Rattle.bgp_why.specs.State.{already_line, another_as_line, state_line}
 use Rattle.bgp_explain.specs.declared.left_out.LeftOut.{LeftOut}
 use Rattle.bgp_explain.specs.declared.moments.Moments.{Moments}
@@ -123,10 +123,13 @@ AreNotesOf config told link left_out octets possible next notes =
     (others : Notes) × AreNotesOn config told link octets possible next others
     × (notes ≡ judged_without left_out.without others)
 
--- what may stand in the next record's place, and what the record lacks of it; or what may follow
+-- what may stand in the next record's place, and what the record lacks of it, with what could have
+-- been sent there in other orders; or what may follow
 abbrev pub may_come : Style → Option (ℕ × ShownRecord) → Possible → Lacked → List ℕ
 may_come style None possible lacked = possible_lines style possible
-may_come style (Some next) possible lacked = following_lines style possible lacked
+may_come style (Some next) possible lacked =
+    following_lines style possible lacked
+    ++ other_lines style.first possible style.other_orders
 
 -- ---- all of it
 

@@ -6,6 +6,7 @@ ghost use Rattle.mrt.specs.Reader.{shown_of};
 ghost use Rattle.mrt.specs.Written.{IsAllowed};
 ghost use Rattle.bgp_text.specs.Lines.{Writes};
 ghost use Rattle.bgp_why.specs.Deed.{form_on, peer_of};
+ghost use Rattle.bgp_verdict_lines.specs.Lines.{PutsLines};
 ghost use Rattle.bgp_explain.specs.Deed.{IsDeedOn, IsDeedText, IsFirstLine, line_of};
 ghost use Rattle.bgp_explain.specs.Details.{next_in};
 ghost use Rattle.bgp_explain.specs.Kept.{shown_by};
@@ -20,7 +21,8 @@ use bgp_open::{Link, RouteForm};
 use bgp_prefix::Session;
 use bgp_reason::Possible;
 use bgp_text::Lines;
-use bgp_why::{Endpoint, Lacks, Style, put_cause, put_deed, put_record_line};
+use bgp_verdict_lines::{VerdictLines, put_record_line};
+use bgp_why::{Endpoint, Lacks, Style, put_cause, put_deed};
 use mrt::{Record, Sink};
 use std::alloc::Allocator;
 
@@ -95,7 +97,7 @@ pub(crate) fn put_deed_text<W: Sink, A: Allocator + Copy, B: Allocator>(
 
 /// Puts the line of an impossible record that stands at these places.
 fn put_line_of<W: Sink, A: Allocator + Copy, B: Allocator>(
-    lines: &mut Lines<'_, W>,
+    lines: &mut VerdictLines<'_, A, W>,
     style: &Style,
     session: &Session,
     places: Places<'_>,
@@ -108,7 +110,7 @@ fn put_line_of<W: Sink, A: Allocator + Copy, B: Allocator>(
         × IsAllowed session.now last (shown_by impossible.now.«record») }
     ensures { (deed : List ℕ)
         × IsDeedOn session.now (peer_of session.now) link (shown_by impossible.now.«record») deed
-        × Writes lines.old lines.new (line_of style.now session.now (places_of places.entry)
+        × PutsLines lines.old lines.new (line_of style.now session.now (places_of places.entry)
         possible.now (lacked_of lacks.now) impossible.now.number
         (shown_by impossible.now.«record») deed) }
 {
@@ -119,7 +121,7 @@ fn put_line_of<W: Sink, A: Allocator + Copy, B: Allocator>(
 
 /// Puts the line of the first impossible record, if there is one.
 pub(crate) fn put_first_line<W: Sink, A: Allocator + Copy, B: Allocator>(
-    lines: &mut Lines<'_, W>,
+    lines: &mut VerdictLines<'_, A, W>,
     style: &Style,
     session: &Session,
     places: Places<'_>,
@@ -130,11 +132,11 @@ pub(crate) fn put_first_line<W: Sink, A: Allocator + Copy, B: Allocator>(
     ensures { (text : List ℕ) × IsFirstLine style.now session.now (places_of places.entry)
         reason.now.link reason.now.possible (lacked_of lacks.now) (next_in reason.now.impossible)
         text
-        × Writes lines.old lines.new text }
+        × PutsLines lines.old lines.new text }
 {
     let (link, possible) = (reason.link, &reason.possible);
     match &reason.impossible {
-        None => lines.put(b""),
+        None => {}
         Some(impossible) => {
             put_line_of(
                 lines, style, session, places, link, possible, lacks, impossible,

@@ -1,7 +1,8 @@
 //! What explaining a capture promises.
 
 ghost use Rattle.std.specs.Prelude.{◌<◌, ◌≤◌, ◌^◌, ℕ, Bool, List};
-ghost use Rattle.bgp_tool.specs.Answer.{answer_status, IsWritten};
+ghost use Rattle.bgp_tool.specs.Answer.{answer_status};
+ghost use Rattle.bgp_verdict_lines.specs.Printed.{IsWrittenIn};
 ghost use Rattle.bgp_explain.specs.Capture.{ExplainedAsJudged, ExplainsCapture};
 ghost use Rattle.bgp_explain.specs.Text.{CanBePutOf, IsExplainedText};
 
@@ -11,31 +12,33 @@ use crate::explained::Explained;
 use crate::texts::put_explained;
 use bgp_judge::Tracker;
 use bgp_open::Config;
-use bgp_text::Lines;
-use bgp_tool::{each_capture_has_one_verdict, hand_over};
+use bgp_tool::each_capture_has_one_verdict;
+use bgp_verdict_lines::{VerdictForm, VerdictLines};
 use mrt::{Reader, Sink, Source};
 use std::alloc::Allocator;
 
-/// Writes the text of what is explained, with the details of its reason, as far as there is memory
-/// for them, and answers its exit status, or that of a device where the sink failed.
+/// Writes what is explained in this form, with the details of its reason, as far as there is memory
+/// for them, and answers its exit status, or that of memory if it is refused for an object, or that
+/// of a device if the sink failed.
 pub(crate) fn write_explained<W: Sink, A: Allocator + Copy>(
     sink: &mut W,
     alloc: A,
     config: &Config,
+    form: VerdictForm,
     explained: &Explained<A>,
 ) -> u8
     requires failures { W.failures sink.old < 2 ^ 63 }
     requires can { CanBePutOf config.now.parts.session explained.now.reason }
     ensures writes { (text : List ℕ) × (detailed : Bool)
         × IsExplainedText config.now explained.now detailed text
-        × IsWritten W.takes W.failures text (answer_status explained.now.answer)
+        × IsWrittenIn form W.takes W.failures text (answer_status explained.now.answer)
         sink.old sink.new result }
     ensures statuses { result ≤ 5 }
 {
     let details = details_of(alloc, config, &explained.reason);
-    let mut lines = Lines::new(sink);
+    let mut lines = VerdictLines::new(form, alloc, sink);
     let status = put_explained(&mut lines, config, explained, &details);
-    let status = hand_over(&mut lines, status);
+    let status = lines.finish(status);
     // No effect: it ends the loan of the sink.
     lines.into_sink();
     status.code()
@@ -67,21 +70,26 @@ pub(crate) fn write_explained<W: Sink, A: Allocator + Copy>(
 /// reason` stands in its place, and the verdict and the status are told all the same: so memory is
 /// refused in a verdict's place only where [`judge_capture`](bgp_tool::judge_capture) may lack it.
 ///
+/// In JSON it writes the objects of lines that have just this text, a line each
+/// (`specs/Printed` of bgp_verdict_lines). If memory is refused for one, those before it are
+/// written, and the status is 4.
+///
 /// It rests on the contract of [`Tracker`] alone, and so holds with every tracker.
 pub fn explain_capture<A: Allocator + Copy, T: Tracker<A>, R: Source, W: Sink>(
     alloc: A,
     config: &Config,
+    form: VerdictForm,
     source: &mut R,
     sink: &mut W,
 ) -> u8
     requires source { R.failures source.old < 2 ^ 63 }
     requires sink { W.failures sink.old < 2 ^ 63 }
-    ensures { ExplainsCapture R.gives R.has_ended W.takes R.failures W.failures config.now
+    ensures { ExplainsCapture form R.gives R.has_ended W.takes R.failures W.failures config.now
         source.old source.new T.may_lack sink.old sink.new result }
 {
     let mut reader = Reader::new(alloc);
     let explained = explain_with::<A, T, R>(&mut reader, alloc, config, source);
-    write_explained(sink, alloc, config, &explained)
+    write_explained(sink, alloc, config, form, &explained)
 }
 
 /// Law: what is explained is judged. The text of what is explained, or told without its reason,

@@ -8,6 +8,7 @@ ghost use Rattle.bgp_open.specs.declared.config.Config.{Config as TheConfig};
 ghost use Rattle.bgp_judge.specs.Memory.{LacksMemoryFor};
 ghost use Rattle.bgp_judge.specs.Verdict.{verdict_value};
 ghost use Rattle.bgp_text.specs.Lines.{Writes};
+ghost use Rattle.bgp_verdict_lines.specs.Lines.{PutsLines};
 ghost use Rattle.bgp_explain.specs.Details.{AreDetailsOf};
 ghost use Rattle.bgp_explain.specs.Places.{places_of};
 ghost use Rattle.bgp_explain.specs.Progress.{IsAt};
@@ -28,6 +29,7 @@ use bgp_open::Config;
 use bgp_prefix::Session;
 use bgp_text::Lines;
 use bgp_tool::Seen;
+use bgp_verdict_lines::VerdictLines;
 use bgp_why::{Endpoint, Style};
 use mrt::{Record, Sink};
 use std::alloc::{AllocError, Allocator, Global};
@@ -115,7 +117,7 @@ impl<A: Allocator + Copy> ExplainedRecords<A> {
 /// The line of that record is put as of a capture of this session, which has to be able to hold it:
 /// the configuration's own, or one whose messages may be longer or have to be shorter.
 pub fn put_explained_records<W: Sink, A: Allocator + Copy>(
-    lines: &mut Lines<'_, W>,
+    lines: &mut VerdictLines<'_, A, W>,
     config: &Config,
     style: &Style,
     session: &Session,
@@ -129,7 +131,7 @@ pub fn put_explained_records<W: Sink, A: Allocator + Copy>(
         → (more : List ℕ)
         × SaysWhere config.now style.now session.now (places_of places.entry) records
         (is_some details.now) (verdict_value explained.now.verdict) more
-        × Writes lines.old lines.new more }
+        × PutsLines lines.old lines.new more }
 {
     let reason = &explained.reason;
     match &explained.verdict {
@@ -185,7 +187,7 @@ pub fn put_deed_of<W: Sink, A: Allocator + Copy>(
 /// The records stand at these places, and the impossible one is one that a capture of this session
 /// can hold. The details are those of the reason, which has to be there.
 pub fn put_lines_of<W: Sink, A: Allocator + Copy>(
-    lines: &mut Lines<'_, W>,
+    lines: &mut VerdictLines<'_, A, W>,
     config: &Config,
     style: &Style,
     session: &Session,
@@ -200,7 +202,7 @@ pub fn put_lines_of<W: Sink, A: Allocator + Copy>(
         → (text : List ℕ)
         × SaysLines config.now style.now session.now another (places_of places.entry) records
         (verdict_value explained.now.verdict) text
-        × Writes lines.old lines.new text }
+        × PutsLines lines.old lines.new text }
 {
     if let Some(reason) = &explained.reason {
         put_lines(

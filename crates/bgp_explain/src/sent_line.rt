@@ -7,8 +7,8 @@ ghost use Rattle.bgp_wire.specs.Header.{limit_with};
 ghost use Rattle.mrt.specs.Reader.{shown_of};
 ghost use Rattle.mrt.specs.Rules.{HasOtherLength};
 ghost use Rattle.mrt.specs.Written.{IsAllowed};
-ghost use Rattle.bgp_text.specs.Lines.{Writes};
 ghost use Rattle.bgp_values.specs.ErrorData.{error_of};
+ghost use Rattle.bgp_verdict_lines.specs.Lines.{PutsLines};
 ghost use Rattle.bgp_explain.specs.Details.{next_in};
 ghost use Rattle.bgp_explain.specs.SentLine.{IsErrorLine, IsLineOf, IsOctetsLine, IsSentLine};
 ghost use Rattle.bgp_explain.specs.SentLine.{IsWordsLine, error_line, sent_reading};
@@ -20,7 +20,7 @@ use bgp_open::{Config, Link, Notification, RouteForm, read_notification};
 use bgp_prefix::Session;
 use bgp_text::Lines;
 use bgp_values::Reading;
-use bgp_why::{put_data_line, put_message_line};
+use bgp_verdict_lines::{VerdictLines, put_data_line, put_message_line};
 use bgp_why_parts::Room;
 use bgp_wire::{HeaderVerdict, Limit, MessageType, check_header, header_at};
 use mrt::{Record, Sink};
@@ -43,8 +43,11 @@ fn sent_reading(config: &Config, link: Option<Link>) -> Reading
 }
 
 /// Puts what the data of an error say, if it has any.
-fn put_data<W: Sink>(lines: &mut Lines<'_, W>, error: Notification<'_>)
-    ensures { Writes lines.old lines.new (error_line (error_of error.entry)) }
+fn put_data<W: Sink, A: Allocator + Copy>(
+    lines: &mut VerdictLines<'_, A, W>,
+    error: Notification<'_>,
+)
+    ensures { PutsLines lines.old lines.new (error_line (error_of error.entry)) }
 {
     if error.detail.is_empty() {
         return;
@@ -58,10 +61,10 @@ fn put_data<W: Sink>(lines: &mut Lines<'_, W>, error: Notification<'_>)
 }
 
 /// Puts the line of a NOTIFICATION.
-fn put_error<W: Sink>(lines: &mut Lines<'_, W>, octets: &[u8])
+fn put_error<W: Sink, A: Allocator + Copy>(lines: &mut VerdictLines<'_, A, W>, octets: &[u8])
     requires { (code subcode : ℕ) × (detail : List ℕ)
         × IsNotification octets.now code subcode detail }
-    ensures { (text : List ℕ) × IsErrorLine octets.now text × Writes lines.old lines.new text }
+    ensures { (text : List ℕ) × IsErrorLine octets.now text × PutsLines lines.old lines.new text }
 {
     let Some(error) = read_notification(octets) else {
         unreachable!();
@@ -70,11 +73,16 @@ fn put_error<W: Sink>(lines: &mut Lines<'_, W>, octets: &[u8])
 }
 
 /// Puts what a message says, or the faults of its header.
-fn put_words<W: Sink>(lines: &mut Lines<'_, W>, reading: Reading, limit: Limit, octets: &[u8])
+fn put_words<W: Sink, A: Allocator + Copy>(
+    lines: &mut VerdictLines<'_, A, W>,
+    reading: Reading,
+    limit: Limit,
+    octets: &[u8],
+)
     requires long { 19 ≤ length octets.now }
     requires whole { ¬ HasOtherLength limit octets.now }
     ensures { (text : List ℕ) × IsWordsLine reading limit octets.now text
-        × Writes lines.old lines.new text }
+        × PutsLines lines.old lines.new text }
 {
     let mut room = Room::new();
     let mut within = Lines::new(&mut room);
@@ -85,11 +93,16 @@ fn put_words<W: Sink>(lines: &mut Lines<'_, W>, reading: Reading, limit: Limit, 
 }
 
 /// Puts the line of a message that may be so long.
-fn put_octets<W: Sink>(lines: &mut Lines<'_, W>, reading: Reading, limit: Limit, octets: &[u8])
+fn put_octets<W: Sink, A: Allocator + Copy>(
+    lines: &mut VerdictLines<'_, A, W>,
+    reading: Reading,
+    limit: Limit,
+    octets: &[u8],
+)
     requires long { 19 ≤ length octets.now }
     requires whole { ¬ HasOtherLength limit octets.now }
     ensures { (text : List ℕ) × IsOctetsLine reading limit octets.now text
-        × Writes lines.old lines.new text }
+        × PutsLines lines.old lines.new text }
 {
     let Some(header) = header_at(octets) else {
         unreachable!();
@@ -100,14 +113,14 @@ fn put_octets<W: Sink>(lines: &mut Lines<'_, W>, reading: Reading, limit: Limit,
             MessageType::Open => put_words(lines, reading, limit, octets),
             MessageType::Update => put_words(lines, reading, limit, octets),
             MessageType::Notification => put_error(lines, octets),
-            MessageType::Keepalive => lines.put(b""),
+            MessageType::Keepalive => {},
         },
     }
 }
 
 /// Puts the line of a message that was sent, which a capture of the session may have.
-fn put_sent<W: Sink>(
-    lines: &mut Lines<'_, W>,
+fn put_sent<W: Sink, A: Allocator + Copy>(
+    lines: &mut VerdictLines<'_, A, W>,
     config: &Config,
     session: &Session,
     link: Option<Link>,
@@ -118,7 +131,7 @@ fn put_sent<W: Sink>(
     ensures { (text : List ℕ)
         × IsOctetsLine (sent_reading config.now link) (limit_with session.now.extended)
         octets.now text
-        × Writes lines.old lines.new text }
+        × PutsLines lines.old lines.new text }
 {
     put_octets(
         lines,
@@ -129,8 +142,8 @@ fn put_sent<W: Sink>(
 }
 
 /// Puts the line of a record that a capture of the session may have.
-fn put_line_of<W: Sink>(
-    lines: &mut Lines<'_, W>,
+fn put_line_of<W: Sink, A: Allocator + Copy>(
+    lines: &mut VerdictLines<'_, A, W>,
     config: &Config,
     session: &Session,
     link: Option<Link>,
@@ -138,18 +151,18 @@ fn put_line_of<W: Sink>(
 )
     requires { (last : Option ℕ) × IsAllowed session.now last (shown_of shown.now) }
     ensures { (text : List ℕ) × IsLineOf config.now session.now link (shown_of shown.now) text
-        × Writes lines.old lines.new text }
+        × PutsLines lines.old lines.new text }
 {
     match shown {
-        Record::In(_, _) => lines.put(b""),
+        Record::In(_, _) => {},
         Record::Out(_, octets) => put_sent(lines, config, session, link, octets),
-        Record::Change(_, _, _) => lines.put(b""),
+        Record::Change(_, _, _) => {},
     }
 }
 
 /// Puts the line of the impossible record's message, if there is one that was sent.
 pub(crate) fn put_sent_line<W: Sink, A: Allocator + Copy>(
-    lines: &mut Lines<'_, W>,
+    lines: &mut VerdictLines<'_, A, W>,
     config: &Config,
     session: &Session,
     link: Option<Link>,
@@ -157,10 +170,10 @@ pub(crate) fn put_sent_line<W: Sink, A: Allocator + Copy>(
 )
     requires { CanBePut session.now impossible.now }
     ensures { (text : List ℕ) × IsSentLine config.now session.now link (next_in impossible.now) text
-        × Writes lines.old lines.new text }
+        × PutsLines lines.old lines.new text }
 {
     match impossible {
-        None => lines.put(b""),
+        None => {},
         Some(impossible) => {
             let shown = impossible.record.as_record();
             put_line_of(lines, config, session, link, &shown);

@@ -1,11 +1,11 @@
 //! What a capture holds beside the records of a session.
 
 ghost use Rattle.std.specs.Prelude.{◌≡◌, []};
-ghost use Rattle.bgp_text.specs.Lines.{Writes};
 ghost use Rattle.mrt.specs.Reader.{places_of};
-ghost use Rattle.bgp_explain.specs.Skipped.{first_text, kinds_line, sessions_line, skipped_lines};
+ghost use Rattle.bgp_verdict_lines.specs.Lines.{PutsLines};
+ghost use Rattle.bgp_explain.specs.Skipped.{kinds_line, sessions_line, skipped_lines};
 
-use bgp_text::{Lines, put_address};
+use bgp_verdict_lines::{VerdictLines, put_other_kinds, put_other_sessions};
 use mrt::{Endpoints, MOST_OTHERS, Reader, Sink, SkippedRecords};
 use std::alloc::Allocator;
 
@@ -45,40 +45,26 @@ impl Skipped {
     }
 }
 
-/// The addresses of the first record of another session, if there is one.
-fn put_first<W: Sink>(lines: &mut Lines<'_, W>, first: Option<Endpoints>)
-    ensures { Writes lines.old lines.new (first_text first) }
+/// Puts the line on the records of other sessions.
+fn put_sessions<W: Sink, A: Allocator + Copy>(lines: &mut VerdictLines<'_, A, W>, skipped: &Skipped)
+    ensures { PutsLines lines.old lines.new (sessions_line skipped.now) }
 {
-    if let Some(Endpoints { peer, local }) = first {
-        lines.put(b", the first of --peer ");
-        put_address(lines, peer);
-        lines.put(b" --local ");
-        put_address(lines, local);
-    }
+    put_other_sessions(lines, skipped.counts.other_sessions, skipped.others[0]);
 }
 
-/// The line on the records of other sessions.
-fn put_sessions<W: Sink>(lines: &mut Lines<'_, W>, skipped: &Skipped)
-    ensures { Writes lines.old lines.new (sessions_line skipped.now) }
+/// Puts the line on the records that are no messages and no changes of state.
+fn put_kinds<W: Sink, A: Allocator + Copy>(lines: &mut VerdictLines<'_, A, W>, skipped: &Skipped)
+    ensures { PutsLines lines.old lines.new (kinds_line skipped.now) }
 {
-    lines.put(b"  records of other sessions: ");
-    lines.put_decimal(skipped.counts.other_sessions);
-    put_first(lines, skipped.others[0]);
-    lines.put(b"\n");
-}
-
-/// The line on the records that are no messages and no changes of state.
-fn put_kinds<W: Sink>(lines: &mut Lines<'_, W>, skipped: &Skipped)
-    ensures { Writes lines.old lines.new (kinds_line skipped.now) }
-{
-    lines.put(b"  records of other kinds: ");
-    lines.put_decimal(skipped.counts.other_kinds);
-    lines.put(b"\n");
+    put_other_kinds(lines, skipped.counts.other_kinds);
 }
 
 /// Puts the lines on what a capture holds besides, if there is one.
-pub(crate) fn put_skipped<W: Sink>(lines: &mut Lines<'_, W>, skipped: Option<Skipped>)
-    ensures { Writes lines.old lines.new (skipped_lines skipped) }
+pub(crate) fn put_skipped<W: Sink, A: Allocator + Copy>(
+    lines: &mut VerdictLines<'_, A, W>,
+    skipped: Option<Skipped>,
+)
+    ensures { PutsLines lines.old lines.new (skipped_lines skipped) }
 {
     if let Some(skipped) = skipped {
         put_sessions(lines, &skipped);

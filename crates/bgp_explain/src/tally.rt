@@ -2,14 +2,15 @@
 
 ghost use Rattle.std.specs.Prelude.{◌≡◌, ◌<◌};
 ghost use Rattle.mrt.specs.Reader.{shown_of};
-ghost use Rattle.bgp_text.specs.Lines.{Writes};
+ghost use Rattle.bgp_verdict_lines.specs.Lines.{PutsLines};
 ghost use Rattle.bgp_explain.specs.Tally.{idle_note, ignored_line, ignored_with, no_tally};
 ghost use Rattle.bgp_explain.specs.Tally.{records_line, tally_with, yes_lines};
 
 use crate::skipped::{Skipped, put_skipped};
 use bgp_machine::Fsm;
-use bgp_text::Lines;
+use bgp_verdict_lines::{VerdictLines, put_ignored, put_note, put_records};
 use mrt::{Record, Sink};
+use std::alloc::Allocator;
 
 /// How many records of a session there are.
 #[derive(Clone, Copy, Debug, PartialEq, Eq)]
@@ -74,53 +75,41 @@ impl Tally {
     }
 }
 
-/// The line on the records.
-fn put_records<W: Sink>(lines: &mut Lines<'_, W>, tally: &Tally)
-    ensures { Writes lines.old lines.new (records_line tally.now) }
+/// Puts the line on the records.
+fn put_tally<W: Sink, A: Allocator + Copy>(lines: &mut VerdictLines<'_, A, W>, tally: &Tally)
+    ensures { PutsLines lines.old lines.new (records_line tally.now) }
 {
-    let all = u128::from(tally.received) + u128::from(tally.sent) + u128::from(tally.changes);
-    lines.put(b"  records of the session: ");
-    lines.put_decimal(all);
-    lines.put(b" (received ");
-    lines.put_decimal(tally.received);
-    lines.put(b", sent ");
-    lines.put_decimal(tally.sent);
-    lines.put(b", changes of state ");
-    lines.put_decimal(tally.changes);
-    lines.put(b")\n");
+    put_records(lines, tally.received, tally.sent, tally.changes);
 }
 
-/// The line on what is ignored.
-fn put_ignored<W: Sink>(lines: &mut Lines<'_, W>, tally: &Tally)
-    ensures { Writes lines.old lines.new (ignored_line tally.now) }
+/// Puts the line on what is ignored.
+fn put_ignored_in<W: Sink, A: Allocator + Copy>(lines: &mut VerdictLines<'_, A, W>, tally: &Tally)
+    ensures { PutsLines lines.old lines.new (ignored_line tally.now) }
 {
-    lines.put(b"  received in Idle, and ignored: ");
-    lines.put_decimal(tally.ignored);
-    lines.put(b"\n");
+    put_ignored(lines, tally.ignored);
 }
 
-/// That nothing was judged, where no change leaves Idle.
-fn idle_note(left_idle: bool) -> &'static [u8]
-    ensures { result.now ≡ idle_note left_idle }
+/// Puts that nothing was judged, if no change leaves Idle.
+fn put_idle_note<W: Sink, A: Allocator + Copy>(lines: &mut VerdictLines<'_, A, W>, left_idle: bool)
+    ensures { PutsLines lines.old lines.new (idle_note left_idle) }
 {
     if left_idle {
-        b""
-    } else {
-        b"  note: no record leaves Idle, so nothing was judged\n"
+        return;
     }
+    put_note(lines, b"no record leaves Idle, so nothing was judged");
 }
 
 /// Puts the lines after a yes: of a capture with what it holds besides.
-pub(crate) fn put_yes_lines<W: Sink>(
-    lines: &mut Lines<'_, W>,
+pub(crate) fn put_yes_lines<W: Sink, A: Allocator + Copy>(
+    lines: &mut VerdictLines<'_, A, W>,
     tally: &Tally,
     skipped: Option<Skipped>,
     left_idle: bool,
 )
-    ensures { Writes lines.old lines.new (yes_lines tally.now skipped left_idle) }
+    ensures { PutsLines lines.old lines.new (yes_lines tally.now skipped left_idle) }
 {
-    put_records(lines, tally);
-    put_ignored(lines, tally);
+    put_tally(lines, tally);
+    put_ignored_in(lines, tally);
     put_skipped(lines, skipped);
-    lines.put(idle_note(left_idle));
+    put_idle_note(lines, left_idle);
 }

@@ -1,9 +1,9 @@
 //! The text of what is explained: the verdict's own, and then why it is a no or unfinished.
 
 ghost use Rattle.std.specs.Prelude.{◌≡◌, ℕ, List, is_some};
-ghost use Rattle.bgp_text.specs.Lines.{Writes};
 ghost use Rattle.bgp_tool.specs.Answer.{answer_status};
 ghost use Rattle.bgp_tool.specs.Status.{code_of};
+ghost use Rattle.bgp_verdict_lines.specs.Lines.{PutsLines};
 ghost use Rattle.bgp_explain.specs.Details.{AreDetails, AreDetailsOf, next_in};
 ghost use Rattle.bgp_explain.specs.Places.{places_of};
 ghost use Rattle.bgp_explain.specs.Text.{CanBePut, CanBePutOf, IsExplainedText, IsMoreBy};
@@ -20,8 +20,8 @@ use crate::why::put_lines;
 use bgp_judge::Verdict;
 use bgp_open::Config;
 use bgp_prefix::{Seconds, Session};
-use bgp_text::Lines;
-use bgp_tool::{Status, put_answer};
+use bgp_tool::Status;
+use bgp_verdict_lines::{VerdictLines, put_answer, put_note};
 use bgp_why::Style;
 use mrt::Sink;
 use std::alloc::Allocator;
@@ -34,7 +34,7 @@ use std::alloc::Allocator;
 /// The lines are in this style and name the records by where they stand, and the impossible one's
 /// is put as of a capture of this session. If a link is settled, its routes are put by it.
 pub fn put_reason<W: Sink, A: Allocator + Copy>(
-    lines: &mut Lines<'_, W>,
+    lines: &mut VerdictLines<'_, A, W>,
     config: &Config,
     style: &Style,
     session: &Session,
@@ -45,22 +45,22 @@ pub fn put_reason<W: Sink, A: Allocator + Copy>(
     requires can { CanBePut session.now reason.now.impossible }
     requires details { AreDetails config.now reason.now details.now }
     ensures { (text : List ℕ) × IsReasonText config.now style.now session.now
-        (places_of places.entry) reason.now text × Writes lines.old lines.new text }
+        (places_of places.entry) reason.now text × PutsLines lines.old lines.new text }
 {
     put_first_line(lines, style, session, places, reason, &details.lacks);
     put_lines(lines, config, style, session, None, places, reason, details);
 }
 
 /// Puts that memory was refused for a reason.
-fn put_no_memory<W: Sink>(lines: &mut Lines<'_, W>)
-    ensures { Writes lines.old lines.new no_memory_line }
+fn put_no_memory<W: Sink, A: Allocator + Copy>(lines: &mut VerdictLines<'_, A, W>)
+    ensures { PutsLines lines.old lines.new no_memory_line }
 {
-    lines.put(b"  note: out of memory for the reason\n");
+    put_note(lines, b"out of memory for the reason");
 }
 
 /// Puts a reason with its details, where there are both, or that memory was refused for it.
 pub(crate) fn put_any_reason<W: Sink, A: Allocator + Copy>(
-    lines: &mut Lines<'_, W>,
+    lines: &mut VerdictLines<'_, A, W>,
     config: &Config,
     style: &Style,
     session: &Session,
@@ -73,7 +73,7 @@ pub(crate) fn put_any_reason<W: Sink, A: Allocator + Copy>(
     ensures { (more : List ℕ)
         × IsMoreBy config.now style.now session.now (places_of places.entry) reason.now
         (is_some details.now) more
-        × Writes lines.old lines.new more }
+        × PutsLines lines.old lines.new more }
 {
     match reason {
         None => put_no_memory(lines),
@@ -115,7 +115,7 @@ fn first_in<A: Allocator + Copy>(reason: &Option<Reason<A>>) -> Seconds
 /// Puts what stands after the verdict's own text: after a yes what its records are, and else why it
 /// is so, with the details of the reason. After a fault there is nothing.
 fn put_more<W: Sink, A: Allocator + Copy>(
-    lines: &mut Lines<'_, W>,
+    lines: &mut VerdictLines<'_, A, W>,
     config: &Config,
     explained: &Explained<A>,
     details: &Option<Details<'_, A>>,
@@ -123,7 +123,7 @@ fn put_more<W: Sink, A: Allocator + Copy>(
     requires can { CanBePutOf config.now.parts.session explained.now.reason }
     requires details { AreDetailsOf config.now explained.now.reason details.now }
     ensures { (more : List ℕ) × IsMoreOf config.now explained.now.answer explained.now.reason
-        (is_some details.now) explained.now.totals more × Writes lines.old lines.new more }
+        (is_some details.now) explained.now.totals more × PutsLines lines.old lines.new more }
 {
     let (places, reason) = (
         Places::Counted(&explained.totals.fractions),
@@ -156,7 +156,7 @@ fn put_more<W: Sink, A: Allocator + Copy>(
 /// Puts the text of what is explained, with the details of its reason, or that memory was refused
 /// for it where there are none, and answers its exit status, that of the verdict.
 pub fn put_explained<W: Sink, A: Allocator + Copy>(
-    lines: &mut Lines<'_, W>,
+    lines: &mut VerdictLines<'_, A, W>,
     config: &Config,
     explained: &Explained<A>,
     details: &Option<Details<'_, A>>,
@@ -165,7 +165,7 @@ pub fn put_explained<W: Sink, A: Allocator + Copy>(
     requires details { AreDetailsOf config.now explained.now.reason details.now }
     ensures writes { (text : List ℕ)
         × IsExplainedText config.now explained.now (is_some details.now) text
-        × Writes lines.old lines.new text }
+        × PutsLines lines.old lines.new text }
     ensures status { code_of result ≡ answer_status explained.now.answer }
 {
     let status = put_answer(lines, &explained.answer);

@@ -1,7 +1,8 @@
 //! Why the next record is impossible, or what may follow: the lines after the one of that record.
 
-ghost use Rattle.std.specs.Prelude.{◌≡◌, ℕ, List};
-ghost use Rattle.bgp_text.specs.Lines.{Writes};
+ghost use Rattle.std.specs.Prelude.{◌≡◌, ◌++◌, ℕ, List};
+ghost use Rattle.bgp_verdict_lines.specs.Lines.{PutsLines};
+ghost use Rattle.bgp_why.specs.Possible.{other_lines};
 ghost use Rattle.bgp_explain.specs.Details.{AreDetails, asking_in, next_in};
 ghost use Rattle.bgp_explain.specs.Kept.{shown_by};
 ghost use Rattle.bgp_explain.specs.Lacked.{following_lines, lacked_of};
@@ -20,12 +21,11 @@ use crate::sent_line::put_sent_line;
 use bgp_open::{Config, Link, RouteForm};
 use bgp_prefix::Session;
 use bgp_reason::Possible;
-use bgp_text::Lines;
-use bgp_why::{
-    Asked, AskedUpdate, Lacks, MessageName, NotWhole, Notes, Place, SentAlready, Style,
-    put_another_as, put_last_received, put_last_update, put_not_whole, put_notes, put_possible,
-    put_possible_but, put_sent_already, put_state,
+use bgp_verdict_lines::{
+    VerdictLines, put_another_as, put_last_received, put_last_update, put_not_whole, put_notes,
+    put_possible, put_possible_but, put_sent_already, put_state,
 };
+use bgp_why::{Asked, AskedUpdate, Lacks, MessageName, NotWhole, Notes, Place, SentAlready, Style};
 use mrt::Sink;
 use std::alloc::Allocator;
 
@@ -182,27 +182,27 @@ fn why_of<A: Allocator + Copy>(config: &Config, places: Places<'_>, reason: &Rea
 }
 
 /// Puts the line of an UPDATE that was received last, with all that may become of it.
-fn put_update<W: Sink, A: Allocator>(
-    lines: &mut Lines<'_, W>,
+fn put_update<W: Sink, A: Allocator + Copy>(
+    lines: &mut VerdictLines<'_, A, W>,
     style: &Style,
     place: &Place,
     name: &MessageName,
     update: &AskedUpdate<'_, A>,
 )
-    ensures { Writes lines.old lines.new
+    ensures { PutsLines lines.old lines.new
         (update_line style.now place.now name.now (asking_of update.now)) }
 {
     put_last_update(lines, style, place, name, update);
 }
 
 /// Puts the line of the message that was received last, if one was.
-fn put_received<W: Sink, A: Allocator>(
-    lines: &mut Lines<'_, W>,
+fn put_received<W: Sink, A: Allocator + Copy>(
+    lines: &mut VerdictLines<'_, A, W>,
     style: &Style,
     received: Option<Received>,
     update: &Option<AskedUpdate<'_, A>>,
 )
-    ensures { Writes lines.old lines.new
+    ensures { PutsLines lines.old lines.new
         (received_line style.now received (asking_in update.now)) }
 {
     let Some(Received { place, asked }) = received else {
@@ -214,28 +214,30 @@ fn put_received<W: Sink, A: Allocator>(
     }
 }
 
-/// Puts the lines of what may stand in the impossible record's place, and what this lacks of it.
-fn put_following<W: Sink, A: Allocator>(
-    lines: &mut Lines<'_, W>,
+/// Puts the lines of what may stand in the impossible record's place, and what this lacks of it;
+/// and of what could have been sent there in other orders.
+fn put_following<W: Sink, A: Allocator + Copy>(
+    lines: &mut VerdictLines<'_, A, W>,
     style: &Style,
     possible: &Possible,
     lacks: &Lacks<'_, A>,
 )
-    ensures { Writes lines.old lines.new
-        (following_lines style.now possible.now (lacked_of lacks.now)) }
+    ensures { PutsLines lines.old lines.new
+        (following_lines style.now possible.now (lacked_of lacks.now)
+        ++ other_lines style.now.first possible.now style.now.other_orders) }
 {
     put_possible_but(lines, style, possible, lacks);
 }
 
 /// Puts the lines of what may stand in the impossible record's place, or follow if there is none.
-fn put_may_come<W: Sink, A: Allocator, B: Allocator>(
-    lines: &mut Lines<'_, W>,
+fn put_may_come<W: Sink, A: Allocator + Copy>(
+    lines: &mut VerdictLines<'_, A, W>,
     style: &Style,
     impossible: &Option<Impossible<A>>,
     possible: &Possible,
-    lacks: &Lacks<'_, B>,
+    lacks: &Lacks<'_, A>,
 )
-    ensures { Writes lines.old lines.new (may_come style.now (next_in impossible.now) possible.now
+    ensures { PutsLines lines.old lines.new (may_come style.now (next_in impossible.now) possible.now
         (lacked_of lacks.now)) }
 {
     match impossible {
@@ -245,25 +247,28 @@ fn put_may_come<W: Sink, A: Allocator, B: Allocator>(
 }
 
 /// Puts that the configuration has another AS number of the peer than this, if one is given.
-fn put_another<W: Sink>(lines: &mut Lines<'_, W>, another: Option<u32>)
-    ensures { Writes lines.old lines.new (another_line another) }
+fn put_another<W: Sink, A: Allocator + Copy>(
+    lines: &mut VerdictLines<'_, A, W>,
+    another: Option<u32>,
+)
+    ensures { PutsLines lines.old lines.new (another_line another) }
 {
     match another {
-        None => lines.put(b""),
+        None => {}
         Some(number) => put_another_as(lines, number),
     }
 }
 
 /// Puts the lines after that of the impossible record's message.
-fn put_why<W: Sink, A: Allocator>(
-    lines: &mut Lines<'_, W>,
+fn put_why<W: Sink, A: Allocator + Copy>(
+    lines: &mut VerdictLines<'_, A, W>,
     style: &Style,
     another: Option<u32>,
     reason: &Reason<A>,
     details: &Details<'_, A>,
     why: &Why,
 )
-    ensures { Writes lines.old lines.new (why_text style.now another reason.now.told.state
+    ensures { PutsLines lines.old lines.new (why_text style.now another reason.now.told.state
         (next_in reason.now.impossible) reason.now.possible why.now
         (asking_in details.now.update) (lacked_of details.now.lacks)) }
 {
@@ -286,7 +291,7 @@ fn put_why<W: Sink, A: Allocator>(
 /// it was sent; what the records before tell; all that could have stood in its place, or may
 /// follow; and notes. If a number is given, the configuration has any other AS number of the peer.
 pub(crate) fn put_lines<W: Sink, A: Allocator + Copy>(
-    lines: &mut Lines<'_, W>,
+    lines: &mut VerdictLines<'_, A, W>,
     config: &Config,
     style: &Style,
     session: &Session,
@@ -298,7 +303,7 @@ pub(crate) fn put_lines<W: Sink, A: Allocator + Copy>(
     requires can { CanBePut session.now reason.now.impossible }
     requires details { AreDetails config.now reason.now details.now }
     ensures { (text : List ℕ) × IsWhyOf config.now style.now session.now another
-        (places_of places.entry) reason.now text × Writes lines.old lines.new text }
+        (places_of places.entry) reason.now text × PutsLines lines.old lines.new text }
 {
     put_sent_line(lines, config, session, reason.link, &reason.impossible);
     let why = why_of(config, places, reason);

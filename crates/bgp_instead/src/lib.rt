@@ -11,9 +11,13 @@
 mod asking;
 mod connection;
 mod laws;
+mod message_at;
+mod others;
 mod sendable;
 
 pub use asking::{MOST_ASKED, sendable_instead};
 pub use connection::sendable_over_orders;
 pub use laws::each_message_is_of_a_kind;
+pub use message_at::is_message_at;
+pub use others::other_orders;
 pub use sendable::Sendable;

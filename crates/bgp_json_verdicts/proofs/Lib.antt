@@ -1,7 +1,4 @@
 pub mod Told
-pub mod Tellers
-pub mod SameTexts
 mod Counted
 mod Parts
-mod ItemValues
 mod Shallow

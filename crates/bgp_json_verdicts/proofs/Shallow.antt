@@ -29,7 +29,7 @@ use Rattle.bgp_json_values.specs.RoutesJson.{hop_addresses}
 use Rattle.bgp_json_values.specs.Texts.{address_json}
 use Rattle.bgp_json_values.specs.Times.{time_members}
 use Rattle.bgp_json_verdicts.specs.At.{at_members, dated_members, number_members, place_members, since_members}
-use Rattle.bgp_json_verdicts.specs.Lines.{LineValue, Opens, Answers, Ends, HasRoute, Reasons, RefusesCapture, Refuses, ReasonValue, TheRecord, TheMessage, TheData, IsUnfit, AnotherAs, TheState, LastReceived, Possible, SentAlready, Note, Records, Ignored, OtherSessions, OtherKinds}
+use Rattle.bgp_json_verdicts.specs.Lines.{LineValue, Opens, Answers, Ends, HasRoute, Reasons, RefusesCapture, Refuses, ReasonValue, TheRecord, TheMessage, TheData, IsUnfit, AnotherAs, TheState, LastReceived, Possible, InAnotherOrder, OtherOrdersUnknown, SentAlready, Note, Records, Ignored, OtherSessions, OtherKinds}
 use Rattle.bgp_json_verdicts.specs.Objects.{answer_members, end_at, end_members, family_texts, first_members, flag_members, item_members, line_json, octet_of, of_end, of_verdict, opening_members, reason_members, reason_type, refusal_json, skipped_members, text_behind, text_json}
 use Rattle.bgp_json_verdicts.specs.RouteJson.{aggregator_members, community_json, community_members, destination_members, extended_json, kind_values, large_json, list_members, mandatory_members, member_if, path_members, path_values, reflection_members, route_members, router_json, router_members, single_members}
 use Rattle.bgp_json_verdicts.specs.declared.answer.Answer.{Answer}
@@ -102,6 +102,8 @@ reason_within (LastReceived at name asked) =
     both_within 6 (at_members at) ((codes "message", text_json name) ∷ text_behind 2 (codes "asked") asked) (at_within at) (omega arith, behind_within 2 (codes "asked") asked)
 reason_within (Possible is_owed is_next is_first item but) =
     both_within 6 (flag_members is_owed is_next is_first) (item_members item but) (omega arith, (omega arith, (omega arith, tt))) (omega arith, behind_within 2 (codes "but") but)
+reason_within (InAnotherOrder item) = (omega arith, tt)
+reason_within OtherOrdersUnknown = tt
 reason_within (SentAlready code subcode at) = both_within 6 (at_members at) _ (at_within at) (omega arith, (omega arith, (omega arith, tt)))
 reason_within (Note text) = (omega arith, tt)
 reason_within (Records received sent changes) = (omega arith, (omega arith, (omega arith, (omega arith, tt))))

@@ -3,5 +3,3 @@ pub mod Lines
 pub mod RouteJson
 pub mod Objects
 pub mod Telling
-pub mod Printed
-pub mod Teller

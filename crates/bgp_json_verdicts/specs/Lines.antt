@@ -30,7 +30,10 @@ use Rattle.bgp_why.specs.Items.{all_items, first_word, item_text, those_possible
 use Rattle.bgp_why.specs.NoteLines.{note_text}
 use Rattle.bgp_why.specs.NotWhole.{unfit_line}
 use Rattle.bgp_why.specs.Place.{record_text}
-use Rattle.bgp_why.specs.Possible.{possible_shown}
+use Rattle.bgp_why.specs.OtherOrders.{besides}
+use Rattle.bgp_why.specs.Possible.{possible_shown, unknown_line}
+use Rattle.bgp_why.specs.declared.other_orders.OtherOrders.{OtherOrders}
+use Rattle.bgp_why.specs.declared.other_orders.OtherOrders.TheVariants as others
 use Rattle.bgp_why.specs.State.{another_as_line}
 use Rattle.bgp_why.specs.declared.items.Item.{Item}
 use Rattle.bgp_why.specs.declared.note_lines.Note as notes
@@ -65,6 +68,9 @@ pub data ReasonValue : Type 0 where
   -- What may come: whether something is owed, whether it comes after all records, whether it is the
   -- first item; the item; and what the record lacks of it, with a semicolon and a blank in front.
   Possible : Bool → Bool → Bool → List ℕ → List ℕ → ReasonValue
+  -- what could have been sent in another order, or that this isn't known
+  InAnotherOrder : List ℕ → ReasonValue
+  OtherOrdersUnknown : ReasonValue
   -- a NOTIFICATION that was sent already
   SentAlready : ℕ → ℕ → At → ReasonValue
   Note : List ℕ → ReasonValue
@@ -86,6 +92,8 @@ reason_value (reasons.State state since) = TheState state since
 reason_value (reasons.LastReceived at name asked) = LastReceived at name.now asked.now
 reason_value (reasons.Possible is_owed is_next is_first item but) =
     Possible is_owed is_next is_first item.now but.now
+reason_value (reasons.InAnotherOrder item) = InAnotherOrder item.now
+reason_value reasons.OtherOrdersUnknown = OtherOrdersUnknown
 reason_value (reasons.SentAlready code subcode at) = SentAlready code subcode at
 reason_value (reasons.Note text) = Note text.now
 reason_value (reasons.Records received sent changes) = Records received sent changes
@@ -124,6 +132,9 @@ reason_text (LastReceived at name asked) =
     codes "  last received: " ++ (at_text at ++ (codes ", " ++ (name ++ (asked ++ codes "\n"))))
 reason_text (Possible is_owed is_next is_first item but) =
     codes "  " ++ (item_word is_owed is_next is_first ++ (item ++ (but ++ codes "\n")))
+reason_text (InAnotherOrder item) =
+    codes "  or: in another order, " ++ (item ++ codes "\n")
+reason_text OtherOrdersUnknown = unknown_line
 reason_text (SentAlready code subcode at) =
     codes "  note: it had sent NOTIFICATION " ++ (full_code_text code subcode
     ++ (codes " already, at " ++ (at_text at ++ codes "\n")))
@@ -194,6 +205,18 @@ abbrev pub possible_values : Style → Bool → (Item → List ℕ) → possible
 possible_values style is_next but p =
     item_values (not p.message) is_next true style.first but
     (those_possible (all_items (possible_shown style.is_recording p)))
+
+-- what could have been sent in other orders, beside what may come
+abbrev pub other_item_values : ℕ → List Item → List LineValue
+other_item_values first [] = []
+other_item_values first (item ∷ items) =
+    Reasons (InAnotherOrder (item_text first item)) ∷ other_item_values first items
+
+abbrev pub other_values : ℕ → possible.Possible → OtherOrders → List LineValue
+other_values first p others.Unasked = []
+other_values first p others.Unknown = Reasons OtherOrdersUnknown ∷ []
+other_values first p (others.Known those) =
+    other_item_values first (those_possible (all_items (besides p those)))
 
 -- whether the next item is the first
 abbrev pub still_first : Bool → Option Item → Bool

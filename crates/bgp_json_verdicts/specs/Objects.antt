@@ -34,6 +34,7 @@ use Rattle.bgp_json_verdicts.specs.Lines.{LineValue, Opens, Answers, Ends, HasRo
 use Rattle.bgp_json_verdicts.specs.Lines.{RefusesCapture, Refuses}
 use Rattle.bgp_json_verdicts.specs.Lines.{ReasonValue, TheRecord, TheMessage, TheData, IsUnfit}
 use Rattle.bgp_json_verdicts.specs.Lines.{AnotherAs, TheState, LastReceived, Possible}
+use Rattle.bgp_json_verdicts.specs.Lines.{InAnotherOrder, OtherOrdersUnknown}
 use Rattle.bgp_json_verdicts.specs.Lines.{SentAlready, Note, Records, Ignored, OtherSessions}
 use Rattle.bgp_json_verdicts.specs.Lines.{OtherKinds}
 use Rattle.bgp_json_verdicts.specs.RouteJson.{route_members}
@@ -107,6 +108,8 @@ reason_type (AnotherAs number) = codes "configured"
 reason_type (TheState state since) = codes "state"
 reason_type (LastReceived at name asked) = codes "last_received"
 reason_type (Possible is_owed is_next is_first item but) = codes "possible"
+reason_type (InAnotherOrder item) = codes "possible_in_another_order"
+reason_type OtherOrdersUnknown = codes "other_orders_unknown"
 reason_type (SentAlready code subcode at) = codes "sent_already"
 reason_type (Note text) = codes "note"
 reason_type (Records received sent changes) = codes "records"
@@ -128,6 +131,8 @@ reason_members (LastReceived at name asked) =
     at_members at ++ (codes "message", text_json name) ∷ text_behind 2 (codes "asked") asked
 reason_members (Possible is_owed is_next is_first item but) =
     flag_members is_owed is_next is_first ++ item_members item but
+reason_members (InAnotherOrder item) = (codes "item", text_json item) ∷ []
+reason_members OtherOrdersUnknown = []
 reason_members (SentAlready code subcode at) =
     at_members at
     ++ (codes "code", number_of code) ∷ (codes "subcode", number_of subcode)

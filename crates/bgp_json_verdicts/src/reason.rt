@@ -233,6 +233,8 @@ pub(crate) fn reason_type(reason: &ReasonLine<'_>) -> &'static str
         ReasonLine::State(..) => "state",
         ReasonLine::LastReceived(..) => "last_received",
         ReasonLine::Possible(..) => "possible",
+        ReasonLine::InAnotherOrder(_) => "possible_in_another_order",
+        ReasonLine::OtherOrdersUnknown => "other_orders_unknown",
         ReasonLine::SentAlready(..) => "sent_already",
         ReasonLine::Note(_) => "note",
         ReasonLine::Records(..) => "records",
@@ -266,6 +268,8 @@ pub(crate) fn put_reason<A: Allocator + Copy>(
             put_item_flags(writer, *is_owed, *is_next, *is_first)?;
             put_item_texts(writer, alloc, item, but)
         }
+        ReasonLine::InAnotherOrder(item) => put_octets_text(writer, alloc, "item", item),
+        ReasonLine::OtherOrdersUnknown => Ok(()),
         ReasonLine::SentAlready(code, subcode, at) => put_sent(writer, alloc, *code, *subcode, at),
         ReasonLine::Note(text) => put_octets_text(writer, alloc, "text", text),
         ReasonLine::Records(received, sent, changes) => {

@@ -29,6 +29,10 @@ pub enum ReasonLine<'a> {
     /// the first item; the item; and what the record lacks of it, with a semicolon and a blank in
     /// front.
     Possible(bool, bool, bool, &'a [u8], &'a [u8]),
+    /// What could have been sent in another order of a recording's messages.
+    InAnotherOrder(&'a [u8]),
+    /// It isn't known what could have been sent in other orders.
+    OtherOrdersUnknown,
     /// A NOTIFICATION that was sent already: its code, its subcode, and where it stands.
     SentAlready(u8, u8, At),
     /// A note.

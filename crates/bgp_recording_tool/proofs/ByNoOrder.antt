@@ -67,7 +67,7 @@ module _ (law : NoOrderExplains) (config : Config) (report : Report) (wanted : I
   by_told text status remarks rest (Refused refusal) is prints tells begins = absurd (no_refusal refusal rest (sym prints ∙ begins))
   by_told text status remarks rest (InAnotherOrder ends more) is prints tells begins = absurd (no_yes (flat_map end_text ends ++ more) rest (sym prints ∙ begins))
   by_told text status remarks rest (UnfinishedOverAll more) is prints tells begins = absurd (no_unfinished more rest (sym prints ∙ begins))
-  by_told text status remarks rest (NoOrder u more) (verdict, reported) prints tells begins = (u, more, prints, tells, says_so u reported.judged.is_found.1)
+  by_told text status remarks rest (NoOrder u more) (verdict, instead, reported) prints tells begins = (u, more, prints, tells, says_so u reported.judged.is_found.1)
 
 pub by_no_order : NoOrderExplains → NoAtPacketIsByNoOrder
 by_no_order law config report wanted packets segments number named text status remarks rest told begins =

@@ -19,6 +19,8 @@ use Rattle.bgp_recording.specs.Tells.{Numbered, numbered_of}
 use Rattle.bgp_recording.specs.declared.entry.Entry.{Entry}
 use Rattle.bgp_why.specs.declared.place.Place.{Place}
 use Rattle.bgp_why.specs.Style.{plain}
+use Rattle.bgp_why.specs.declared.other_orders.OtherOrders.{OtherOrders}
+use Rattle.bgp_why.specs.declared.other_orders.OtherOrders.TheVariants.{Unasked}
 use Rattle.bgp_why.specs.declared.style.Style.{Style}
 use Rattle.bgp_explain.specs.Laws.{HasOneReason}
 use Rattle.bgp_explain.specs.Moments.{first_second}
@@ -65,6 +67,10 @@ same_places entries = λ i count second. same_place entries count second i
 
 -- ---- a reason, where there is one
 
+-- the style of these records
+abbrev styled : OtherOrders → List ShownRecord → Style
+styled instead records = record (plain (first_second records) true) { other_orders = instead }
+
 module _ (config : Config) (style : Style) (places : ℕ → ℕ → Place) (records : List ShownRecord) where
   said : (verdict : VerdictValue) (more : List ℕ) → SaysOrNot config style config.parts.session places records verdict more → more ≢ no_memory_line
       → SaysOfRecords config style config.parts.session places records verdict more
@@ -84,24 +90,24 @@ module _ (reason : HasOneReason) (config : Config) (octets : List ℕ) (entries 
   places : shown_places entries ≡ shown_places also
   places = same_places entries ∙ ap places_by same ∙ sym (same_places also)
 
-  one_more : (verdict judged : VerdictValue) (more other : List ℕ) → verdict ≡ judged → IsMore WithReason config entries verdict more → IsMore WithReason config also judged other
-      → more ≢ no_memory_line → other ≢ no_memory_line → more ≡ other
-  one_more verdict judged more other is h k some there =
-      let own = said config (plain (first_second (records_of entries)) true) (shown_places entries) (records_of entries) verdict more h some in
-      let its = said config (plain (first_second (records_of also)) true) (shown_places also) (records_of also) judged other k there in
-      reason config (plain (first_second (records_of entries)) true) (shown_places entries) octets (records_of entries) verdict more other spells own
-      (subst (λ (rs : List ShownRecord). SaysOfRecords config (plain (first_second rs) true) config.parts.session (shown_places entries) rs verdict other) (sym records)
-      (subst (λ (ps : ℕ → ℕ → Place). SaysOfRecords config (plain (first_second (records_of also)) true) config.parts.session ps (records_of also) verdict other) (sym places)
-      (subst (λ (v : VerdictValue). SaysOfRecords config (plain (first_second (records_of also)) true) config.parts.session (shown_places also) (records_of also) v other) (sym is) its)))
+  one_more : (instead : OtherOrders) (verdict judged : VerdictValue) (more other : List ℕ) → verdict ≡ judged → IsMore WithReason config entries instead verdict more
+      → IsMore WithReason config also instead judged other → more ≢ no_memory_line → other ≢ no_memory_line → more ≡ other
+  one_more instead verdict judged more other is h k some there =
+      let own = said config (styled instead (records_of entries)) (shown_places entries) (records_of entries) verdict more h some in
+      let its = said config (styled instead (records_of also)) (shown_places also) (records_of also) judged other k there in
+      reason config (styled instead (records_of entries)) (shown_places entries) octets (records_of entries) verdict more other spells own
+      (subst (λ (rs : List ShownRecord). SaysOfRecords config (styled instead rs) config.parts.session (shown_places entries) rs verdict other) (sym records)
+      (subst (λ (ps : ℕ → ℕ → Place). SaysOfRecords config (styled instead (records_of also)) config.parts.session ps (records_of also) verdict other) (sym places)
+      (subst (λ (v : VerdictValue). SaysOfRecords config (styled instead (records_of also)) config.parts.session (shown_places also) (records_of also) v other) (sym is) its)))
 
   one_of : (others beside : List Entry) (verdict judged : VerdictValue) (found : Found) (more other : List ℕ) → verdict ≡ judged
       → IsMoreOf WithReason config entries others verdict found more → IsMoreOf WithReason config also beside judged found other → AreOfOneOrder found others beside
       → more ≢ no_memory_line → other ≢ no_memory_line → more ≡ other
-  one_of others beside verdict judged Nothing more other is h k of some there = one_more verdict judged more other is h k some there
-  one_of others beside verdict judged (ByNone u) more other is h k of some there = one_more verdict judged more other is h k some there
+  one_of others beside verdict judged Nothing more other is h k of some there = one_more Unasked verdict judged more other is h k some there
+  one_of others beside verdict judged (ByNone u instead) more other is h k of some there = one_more instead verdict judged more other is h k some there
   one_of others beside verdict judged (ByAnother ends) more other is h k of some there =
-      h ∙ sym (subst (λ (es : List Entry). IsMore WithReason config es (Yes ends) other) (sym of) k)
-  one_of others beside verdict judged ByAll more other is h k of some there = one_more verdict judged more other is h k some there
+      h ∙ sym (subst (λ (es : List Entry). IsMore WithReason config es Unasked (Yes ends) other) (sym of) k)
+  one_of others beside verdict judged ByAll more other is h k of some there = one_more Unasked verdict judged more other is h k some there
 
 pub one_reason : HasOneReason → MadeRecordsAreRead → RecordingsAreMadeOnce → HasOneVerdict → RecordingsAreExplainedInOneWay
 one_reason reason read once verdicts config wanted packets segments number named other verdict judged found more also remarks others can session taken one two of some there =

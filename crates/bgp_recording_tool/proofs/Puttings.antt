@@ -5,9 +5,10 @@ use Rattle.streams.specs.Passed.{Segment}
 use Rattle.streams.specs.declared.connection.Opening.{Opening}
 use Rattle.mrt.specs.declared.sink.Sink as sinks
 use Rattle.bgp_open.specs.declared.config.Config.{Config}
-use Rattle.bgp_text.specs.Lines.{Writes}
-use Rattle.bgp_text.specs.declared.lines.Lines.{Lines}
-use Rattle.bgp_text.proofs.Pieces.{Joins, and_then, nothing_yet}
+use Rattle.bgp_text.proofs.Pieces.{Joins}
+use Rattle.bgp_verdict_lines.specs.Lines.{PutsLines}
+use Rattle.bgp_verdict_lines.specs.declared.verdict_lines.VerdictLines.{VerdictLines}
+use Rattle.bgp_verdict_lines.proofs.Puts.{no_lines, then_lines}
 use Rattle.bgp_import.specs.Gathers.{HasReadAll, IsStopped, cut_short_by, failures_by}
 use Rattle.bgp_import.specs.declared.cut_short.CutShort.{CutShort}
 use Rattle.bgp_import.specs.ListText.{opening_text}
@@ -22,7 +23,7 @@ use Rattle.bgp_recording_tool.specs.Connections.{AllAreTold, AreTold, IsOpening,
 use Rattle.bgp_explain.specs.declared.report.Report.{Report}
 use Rattle.bgp_recording_tool.specs.Judging.{Puts, TellsRecording}
 
-module _ {T : Type 0} {sink : sinks.Ghosts T} (a b : Lines T sink) (r s : List Remark) where
+module _ {X T : Type 0} {sink : sinks.Ghosts T} (a b : VerdictLines X T sink) (r s : List Remark) where
   -- what was put tells another thing, too
   pub put_as : {P Q : List ℕ → ℕ → List Remark → Type 0} (status : ℕ)
       → ((text : List ℕ) (own : List Remark) → P text status own → Q text status own) → Puts a b r s status P → Puts a b r s status Q
@@ -34,12 +35,12 @@ module _ {T : Type 0} {sink : sinks.Ghosts T} (a b : Lines T sink) (r s : List R
     holds = so puts.text puts.own puts.holds;
   }
 
-module _ {T : Type 0} {sink : sinks.Ghosts T} (law : Joins sink) (a b c d : Lines T sink) (r s t : List Remark)
+module _ {X T : Type 0} {sink : sinks.Ghosts T} (law : Joins sink) (a b c d : VerdictLines X T sink) (r s t : List Remark)
     (config : Config) (report : Report) (wanted : Import) (packets : List Recorded) (segments : List Segment) where
   -- one connection more
   one_more : (n before code status : ℕ) (opening : Opening) → Puts a b r s before (AreTold config report wanted packets segments n)
       → IsOpening config wanted packets segments (suc n) opening
-      → Writes b c (opening_text config.parts.session opening ++ codes "\n")
+      → PutsLines b c (opening_text config.parts.session opening ++ codes "\n")
       → Puts c d s t code (IsToldAs config report wanted packets segments (Some (suc n)) (Some (suc n)))
       → status ≡ status_over (before ∷ code ∷ [])
       → Puts a d r t status (AreTold config report wanted packets segments (suc n))
@@ -47,7 +48,7 @@ module _ {T : Type 0} {sink : sinks.Ghosts T} (law : Joins sink) (a b c d : Line
       let line = opening_text config.parts.session opening in record {
         text = so_far.text ++ ((line ++ codes "\n") ++ told.text);
         own = so_far.own ++ told.own;
-        wrote = and_then law so_far.wrote (and_then law wrote told.wrote);
+        wrote = then_lines law so_far.wrote (then_lines law wrote told.wrote);
         added = told.added ∙ ap (λ (x : List Remark). x ++ told.own) so_far.added ∙ append_assoc r so_far.own told.own;
         holds = record {
           statuses = told_status told.holds.told ∷ so_far.holds.statuses;
@@ -74,7 +75,7 @@ module _ {T : Type 0} {sink : sinks.Ghosts T} (law : Joins sink) (a b c d : Line
   pub one_more_at : (n number before code status : ℕ) (opening : Opening) → number ≡ suc n
       → Puts a b r s before (AreTold config report wanted packets segments n)
       → IsOpening config wanted packets segments number opening
-      → Writes b c (opening_text config.parts.session opening ++ codes "\n")
+      → PutsLines b c (opening_text config.parts.session opening ++ codes "\n")
       → Puts c d s t code (IsToldAs config report wanted packets segments (Some number) (Some number))
       → status ≡ status_over (before ∷ code ∷ [])
       → Puts a d r t status (AreTold config report wanted packets segments number)
@@ -88,13 +89,13 @@ module _ {T : Type 0} {sink : sinks.Ghosts T} (law : Joins sink) (a b c d : Line
       opens told
 
 -- before the first connection nothing is put
-pub none_put : {T : Type 0} (sink : sinks.Ghosts T) → ((x : T) → sink.takes x x []) → (a : Lines T sink) (r : List Remark)
+pub none_put : {X T : Type 0} (sink : sinks.Ghosts T) → ((x : T) → sink.takes x x []) → (a : VerdictLines X T sink) (r : List Remark)
     (config : Config) (report : Report) (wanted : Import) (packets : List Recorded) (segments : List Segment)
     → Puts a a r r 0 (AreTold config report wanted packets segments 0)
 none_put sink nothing a r config report wanted packets segments = record {
   text = [];
   own = [];
-  wrote = nothing_yet sink nothing a.outlet a.held.items;
+  wrote = no_lines nothing a;
   added = sym (append-nil r);
   holds = record { statuses = []; each = (refl, refl, refl); tells = refl };
 }
@@ -104,8 +105,8 @@ none_put sink nothing a r config report wanted packets segments = record {
 same_count : (old new : ℕ) → new ≡ old + 0 → new ≡ old
 same_count old new is = omega (arith, is)
 
-module _ {S T : Type 0} {sink : sinks.Ghosts T} (gives : S → S → List ℕ → Type 0) (has_ended : S → Bool) (failures : S → ℕ)
-    (config : Config) (report : Report) (wanted : Import) (old new : S) (a b : Lines T sink) (r s : List Remark) (status : ℕ) (cut_short : Option CutShort) where
+module _ {S X T : Type 0} {sink : sinks.Ghosts T} (gives : S → S → List ℕ → Type 0) (has_ended : S → Bool) (failures : S → ℕ)
+    (config : Config) (report : Report) (wanted : Import) (old new : S) (a b : VerdictLines X T sink) (r s : List Remark) (status : ℕ) (cut_short : Option CutShort) where
   -- it was read to its end
   pub was_read : (octets : List ℕ) (packets : List Recorded) (segments : List Segment) (cut : Bool)
       → HasReadAll gives has_ended wanted.selection old new octets packets segments cut → cut_short ≡ cut_short_by cut (length packets)
@@ -131,7 +132,7 @@ module _ {S T : Type 0} {sink : sinks.Ghosts T} (gives : S → S → List ℕ �
 
   -- it is refused
   pub was_refused : (refusal : Refusal) → IsStopped gives has_ended wanted.selection old new refusal
-      → failures new ≡ failures old + failures_by refusal → Writes a b (refusal_line refusal) → status ≡ refused_status refusal → AddsTold r s (IsHelp None refusal) → cut_short ≡ None
+      → failures new ≡ failures old + failures_by refusal → PutsLines a b (refusal_line refusal) → status ≡ refused_status refusal → AddsTold r s (IsHelp None refusal) → cut_short ≡ None
       → Puts a b r s status (TellsRecording gives has_ended failures config report wanted old new cut_short)
   was_refused refusal stopped counted wrote is adds uncut = record {
     text = refusal_line refusal;

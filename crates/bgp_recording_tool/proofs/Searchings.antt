@@ -12,12 +12,14 @@ use Rattle.bgp_judge.specs.Verdict.{VerdictValue, verdict_value}
 use Rattle.bgp_judge.specs.declared.verdict.Verdict.{Verdict}
 use Rattle.bgp_judge.specs.declared.verdict.Verdict.TheVariants as verdicts
 use Rattle.bgp_recording.specs.Pieces.{framings_of}
+use Rattle.bgp_recording.specs.declared.entry.Entry.{Entry}
 use Rattle.bgp_explain.specs.Reason.{HasReason}
 use Rattle.bgp_explain.specs.Text.{CanBePutOf}
 use Rattle.bgp_explain.specs.declared.explained.Reason.{Reason}
+use Rattle.bgp_explain.specs.declared.report.Report.{Report}
 use Rattle.bgp_import.specs.declared.importing.Import.{Import}
-use Rattle.bgp_recording_tool.specs.Connections.{IsFound, IsFoundOver}
-use Rattle.bgp_recording_tool.specs.Found.{IsNoYes, IsSought, IsYes, entries_of, found_of}
+use Rattle.bgp_recording_tool.specs.Connections.{IsFound, IsFoundOver, IsInstead, IsInsteadOver}
+use Rattle.bgp_recording_tool.specs.Found.{Found, Nothing, ByNone, ByAnother, ByAll, IsNoYes, IsSought, IsYes, entries_of, found_of}
 use Rattle.bgp_recording_tool.specs.declared.orders.Searched.{Searched}
 use Rattle.bgp_recording_tool.specs.declared.orders.Searched.TheVariants as searches
 
@@ -27,12 +29,23 @@ pub found_so : {X : Type 0} (config : Config) (wanted : Import) (packets : List 
     → IsFoundOver config wanted.within (framings_of wanted.selection.session) connection (entries_of searched) (found_of searched)
     → IsFound config wanted packets segments number verdict (entries_of searched) (found_of searched)
 found_so config wanted packets segments number connection verdict searches.Nothing answered other sought over = tt
-found_so config wanted packets segments number connection verdict (searches.NoOrder u) answered other sought over =
+found_so config wanted packets segments number connection verdict (searches.NoOrder u instead) answered other sought over =
     (sought, record { connection = connection; chosen = answered; over_all = over })
 found_so config wanted packets segments number connection verdict (searches.Another another) answered other sought over =
     (other, record { connection = connection; chosen = answered; yes = over })
 found_so config wanted packets segments number connection verdict searches.Unfinished answered other sought over =
     (sought, record { connection = connection; chosen = answered; over_all = over })
+
+-- and so is what its reason says of other orders
+pub instead_so : (config : Config) (wanted : Import) (packets : List Recorded) (segments : List Segment) (report : Report) (number : Option ℕ) (connection : Connection) (made : List Entry)
+    (verdict : VerdictValue) (found : Found) → IsAnswered number (length packets) (numbered (reverse segments)) connection
+    → IsInsteadOver report config wanted.within (framings_of wanted.selection.session) connection made verdict found
+    → IsInstead config wanted packets segments report number made verdict found
+instead_so config wanted packets segments report number connection made verdict Nothing answered over = tt
+instead_so config wanted packets segments report number connection made verdict (ByNone u instead) answered over =
+    record { connection = connection; chosen = answered; are = over }
+instead_so config wanted packets segments report number connection made verdict (ByAnother ends) answered over = tt
+instead_so config wanted packets segments report number connection made verdict ByAll answered over = tt
 
 -- the reason of a yes can be put, since it has none
 pub yes_can : {X Y : Type 0} (session : Session) (config : Config) (records : List ShownRecord) (verdict : Verdict X) (reason : Option (Reason Y)) → IsYes (verdict_value verdict)

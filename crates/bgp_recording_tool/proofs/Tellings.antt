@@ -7,8 +7,8 @@ use Rattle.mrt.specs.declared.sink.Sink as sinks
 use Rattle.bgp_prefix.specs.declared.session.RouteRefresh.TheVariants as refreshes
 use Rattle.bgp_open.specs.declared.config.Config.{Config}
 use Rattle.bgp_judge.specs.Verdict.{VerdictValue}
-use Rattle.bgp_text.specs.Lines.{Writes}
-use Rattle.bgp_text.specs.declared.lines.Lines.{Lines}
+use Rattle.bgp_verdict_lines.specs.Lines.{PutsLines}
+use Rattle.bgp_verdict_lines.specs.declared.verdict_lines.VerdictLines.{VerdictLines}
 use Rattle.bgp_recording.specs.Captured.{IsNoRefresh, records_of}
 use Rattle.bgp_recording.specs.declared.making.Recording.{Recording}
 use Rattle.bgp_import.specs.Making.{TellsOne, IsTurnedDown}
@@ -26,14 +26,14 @@ use Rattle.bgp_recording_tool.proofs.Judgings.{is_made}
 use Rattle.bgp_recording_tool.specs.Connections.{IsReported, IsTold, IsToldAs}
 use Rattle.bgp_recording_tool.specs.Putting.{PutsReport}
 
-module _ {T : Type 0} {sink : sinks.Ghosts T} (config : Config) (report : Report) (wanted : Import) (packets : List Recorded) (segments : List Segment) (number named : Option ℕ)
-    (a b : Lines T sink) (old new : List Remark) (status : ℕ) where
+module _ {X T : Type 0} {sink : sinks.Ghosts T} (config : Config) (report : Report) (wanted : Import) (packets : List Recorded) (segments : List Segment) (number named : Option ℕ)
+    (a b : VerdictLines X T sink) (old new : List Remark) (status : ℕ) where
   -- what is told of a verdict, and of what is found over all orders
   reported_so : (verdict : VerdictValue) (found : Found) (more : List ℕ) (remarks : List Remark)
       → IsReported config report wanted packets segments number named verdict found more remarks
       → IsTold config report wanted packets segments number named (told_with verdict found more) remarks
   reported_so verdict Nothing more remarks reported = reported
-  reported_so verdict (ByNone u) more remarks reported = (verdict, reported)
+  reported_so verdict (ByNone u instead) more remarks reported = (verdict, instead, reported)
   reported_so verdict (ByAnother ends) more remarks reported = (verdict, reported)
   reported_so verdict ByAll more remarks reported = (verdict, reported)
 
@@ -63,6 +63,7 @@ module _ {T : Type 0} {sink : sinks.Ghosts T} (config : Config) (report : Report
           remarked = puts.added.is_told;
         };
         is_more = puts.is_more;
+        instead = puts.instead;
       } in
       record {
         text = told_text (told_with puts.verdict puts.found puts.more);
@@ -78,7 +79,7 @@ module _ {T : Type 0} {sink : sinks.Ghosts T} (config : Config) (report : Report
       }
 
   -- or it is refused, and what helps was added
-  pub was_turned_down : (refusal : Refusal) → IsTurnedDown number packets segments refusal → Writes a b (refusal_line refusal) → status ≡ refused_status refusal
+  pub was_turned_down : (refusal : Refusal) → IsTurnedDown number packets segments refusal → PutsLines a b (refusal_line refusal) → status ≡ refused_status refusal
       → AddsTold old new (IsHelp named refusal) → Puts a b old new status (IsToldAs config report wanted packets segments number named)
   was_turned_down refusal down wrote tells adds = record {
     text = refusal_line refusal;
@@ -91,7 +92,7 @@ module _ {T : Type 0} {sink : sinks.Ghosts T} (config : Config) (report : Report
   -- or it has a ROUTE-REFRESH
   pub was_refreshed : {Z : Type 0} (refusal : Refusal) (made : Recording Z) → TellsOne wanted number packets segments made
       → wanted.selection.session.refresh ≡ refreshes.Refused → IsRefreshIn made.entries.items made.received.rest made.sent.rest (Some refusal)
-      → Writes a b (refusal_line refusal) → status ≡ refused_status refusal → AddsTold old new (IsHelp named refusal)
+      → PutsLines a b (refusal_line refusal) → status ≡ refused_status refusal → AddsTold old new (IsHelp named refusal)
       → Puts a b old new status (IsToldAs config report wanted packets segments number named)
   was_refreshed refusal made tells refuses is wrote told adds = record {
     text = refusal_line refusal;

@@ -126,9 +126,9 @@ module _ (agree : ImportAndJudgeAgree) (config : Config) (imports judges : Impor
 pub tells_as : ImportAndJudgeAgree → JudgeTellsTheCapture
 tells_as agree config report imports judges number packets segments connection entries notes octets named (Judged verdict more) remarks can session mean taken also answered made capture told =
     reads_so agree config imports judges number named packets segments connection entries notes octets can session mean taken also answered made capture verdict Nothing remarks told.judged
-tells_as agree config report imports judges number packets segments connection entries notes octets named (NoOrder u more) remarks can session mean taken also answered made capture (verdict, told) =
+tells_as agree config report imports judges number packets segments connection entries notes octets named (NoOrder u more) remarks can session mean taken also answered made capture (verdict, instead, told) =
     let (records, spells, is) = reads_so agree config imports judges number named packets segments connection entries notes octets can session mean taken also answered made capture
-    verdict (ByNone u) remarks told.judged in
+    verdict (ByNone u instead) remarks told.judged in
     let (count, same) = told.judged.is_found.0 in (records, spells, count, subst (λ (v : VerdictValue). HasVerdict config records v) same is)
 tells_as agree config report imports judges number packets segments connection entries notes octets named (InAnotherOrder ends more) remarks can session mean taken also answered made capture (verdict, told) =
     let (records, spells, is) = reads_so agree config imports judges number named packets segments connection entries notes octets can session mean taken also answered made capture

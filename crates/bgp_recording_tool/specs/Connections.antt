@@ -11,7 +11,7 @@ use Rattle.streams.specs.declared.connection.Opening.{Opening}
 use Rattle.bgp_prefix.specs.declared.session.RouteRefresh.TheVariants as refreshes
 use Rattle.bgp_parts.specs.Confederations.{SomeShowConfederations}
 use Rattle.bgp_open.specs.declared.config.Config.{Config}
-use Rattle.bgp_judge.specs.Verdict.{VerdictValue, Yes, HasVerdict}
+use Rattle.bgp_judge.specs.Verdict.{VerdictValue, Yes, No, HasVerdict}
 use Rattle.bgp_recording.specs.Captured.{IsNoRefresh, records_of}
 use Rattle.bgp_recording.specs.Pieces.{framings_of}
 use Rattle.bgp_recording.specs.declared.entry.Entry.{Entry}
@@ -22,6 +22,7 @@ use Rattle.bgp_orders.specs.Connections.{IsOverOrders}
 use Rattle.bgp_orders.specs.WholeWays.{AreOfAWayOver}
 use Rattle.bgp_orders.specs.declared.connection.OverOrders.TheVariants as over
 use Rattle.bgp_orders.specs.declared.connection.Unexplained.{Unexplained}
+use Rattle.bgp_instead.specs.OtherOrders.{AreOtherOrders}
 use Rattle.bgp_import.specs.Importing.{IsMadeOf}
 use Rattle.bgp_import.specs.ListText.{opening_text}
 use Rattle.bgp_import.specs.Making.{IsTurnedDown}
@@ -32,6 +33,8 @@ use Rattle.bgp_import.specs.declared.refusal.Refusal.{Refusal}
 use Rattle.bgp_explain.specs.LeftOut.{JudgesWithout}
 use Rattle.bgp_explain.specs.declared.left_out.LeftOut.{LeftOut}
 use Rattle.bgp_explain.specs.Places.{shown_places}
+use Rattle.bgp_why.specs.declared.other_orders.OtherOrders.{OtherOrders}
+use Rattle.bgp_why.specs.declared.other_orders.OtherOrders.TheVariants.{Unasked}
 use Rattle.bgp_why.specs.declared.style.Style.{Style}
 use Rattle.bgp_why.specs.Style.{plain}
 use Rattle.bgp_explain.specs.Moments.{first_second}
@@ -76,12 +79,28 @@ pub record IsYesOver (config : Config) (within : ℕ) (framings : Framings)
 -- order is a yes, these are its entries.
 abbrev pub IsFoundOver : Config → ℕ → Framings → Connection → List Entry → Found → Type 0
 IsFoundOver config within framings connection others Nothing = Unit {0}
-IsFoundOver config within framings connection others (ByNone u) =
+IsFoundOver config within framings connection others (ByNone u instead) =
     IsOverOrders config within framings connection (over.No u)
 IsFoundOver config within framings connection others (ByAnother ends) =
     IsYesOver config within framings connection others ends
 IsFoundOver config within framings connection others ByAll =
     IsOverOrders config within framings connection over.Unfinished
+
+-- What a reason says of other orders, if one is wanted, where no order explains the sent message
+-- behind so many, and the verdict on these made entries is a no.
+abbrev pub AreInsteadOver : Report → Config → ℕ → Framings → Connection → ℕ → List Entry
+    → VerdictValue → OtherOrders → Type 0
+AreInsteadOver WithReason config within framings connection before made (No count) instead =
+    AreOtherOrders config within framings connection before made count instead
+AreInsteadOver report config within framings connection before made verdict instead =
+    instead ≡ Unasked
+
+-- and of what is found
+abbrev pub IsInsteadOver : Report → Config → ℕ → Framings → Connection → List Entry → VerdictValue
+    → Found → Type 0
+IsInsteadOver report config within framings connection made verdict (ByNone u instead) =
+    AreInsteadOver report config within framings connection u.before made verdict instead
+IsInsteadOver report config within framings connection made verdict found = Unit {0}
 
 -- The session's packets have these segments, none of which is refused.
 module _ (config : Config) (wanted : Import) (packets : List Recorded) (segments : List Segment)
@@ -112,11 +131,26 @@ module _ (config : Config) (wanted : Import) (packets : List Recorded) (segments
       pub over_all : IsOverOrders config wanted.within (framings_of wanted.selection.session)
           connection over.Unfinished
 
+    -- This is what the reason of that connection's no says of other orders, where no order explains
+    -- the sent message behind so many. These are its made entries.
+    pub record AreInstead (report : Report) (number : Option ℕ) (before : ℕ) (made : List Entry)
+        (verdict : VerdictValue) (instead : OtherOrders) : Type 0 where
+      pub connection : Connection
+      pub chosen : IsAnswered number (length packets) (numbered (reverse segments)) connection
+      pub are : AreInsteadOver report config wanted.within
+          (framings_of wanted.selection.session) connection before made verdict instead
+
+    -- and of what is found
+    abbrev pub IsInstead : Report → Option ℕ → List Entry → VerdictValue → Found → Type 0
+    IsInstead report number made verdict (ByNone u instead) =
+        AreInstead report number u.before made verdict instead
+    IsInstead report number made verdict found = Unit {0}
+
     -- This is found over all orders, where this is the verdict on the made one. If another order is
     -- a yes, these are its entries.
     abbrev pub IsFound : Option ℕ → VerdictValue → List Entry → Found → Type 0
     IsFound number verdict others Nothing = Unit {0}
-    IsFound number verdict others (ByNone u) = IsNo verdict × IsNoOrder number u
+    IsFound number verdict others (ByNone u instead) = IsNo verdict × IsNoOrder number u
     IsFound number verdict others (ByAnother ends) =
         IsNoYes verdict × IsYesOfAnother number others ends
     IsFound number verdict others ByAll = IsNo verdict × IsUnfinishedByAll number
@@ -171,28 +205,32 @@ module _ (config : Config) (wanted : Import) (packets : List Recorded) (segments
     abbrev pub HasSeveral : Type 0
     HasSeveral = (wanted.connection ≡ None) × (1 < length (numbered (reverse segments)))
 
--- the records are those of a recording, and a time of the first one's day has no date
-abbrev pub made_style : List Entry → Style
-made_style entries = plain (first_second (records_of entries)) true
+-- the records are those of a recording, a time of the first one's day has no date, and this is said
+-- of other orders
+abbrev pub made_style : List Entry → OtherOrders → Style
+made_style entries instead =
+    record (plain (first_second (records_of entries)) true) { other_orders = instead }
 
--- What stands after the verdict on the records of these entries: nothing; or what explains it, or
--- that memory was refused for the reason.
-abbrev pub IsMore : Report → Config → List Entry → VerdictValue → List ℕ → Type 0
-IsMore VerdictAlone config entries verdict more = more ≡ []
-IsMore WithReason config entries verdict more =
-    SaysOrNot config (made_style entries) config.parts.session (shown_places entries)
+-- What stands after the verdict on the records of these entries: nothing; or what explains it, with
+-- what is said of other orders, or that memory was refused for the reason.
+abbrev pub IsMore : Report → Config → List Entry → OtherOrders → VerdictValue → List ℕ → Type 0
+IsMore VerdictAlone config entries instead verdict more = more ≡ []
+IsMore WithReason config entries instead verdict more =
+    SaysOrNot config (made_style entries instead) config.parts.session (shown_places entries)
     (records_of entries) verdict more
 
 -- And where this is found over all orders: if another order is a yes, it is about the entries of
 -- that, and else about the made ones.
 abbrev pub IsMoreOf : Report → Config → List Entry → List Entry → VerdictValue → Found → List ℕ
     → Type 0
-IsMoreOf report config made others verdict Nothing more = IsMore report config made verdict more
-IsMoreOf report config made others verdict (ByNone u) more =
-    IsMore report config made verdict more
+IsMoreOf report config made others verdict Nothing more =
+    IsMore report config made Unasked verdict more
+IsMoreOf report config made others verdict (ByNone u instead) more =
+    IsMore report config made instead verdict more
 IsMoreOf report config made others verdict (ByAnother ends) more =
-    IsMore report config others (Yes ends) more
-IsMoreOf report config made others verdict ByAll more = IsMore report config made verdict more
+    IsMore report config others Unasked (Yes ends) more
+IsMoreOf report config made others verdict ByAll more =
+    IsMore report config made Unasked verdict more
 
 -- And this is reported of the session's connections.
 module _ (config : Config) (report : Report) (wanted : Import) (packets : List Recorded)
@@ -202,6 +240,8 @@ module _ (config : Config) (report : Report) (wanted : Import) (packets : List R
       (more : List ℕ) (remarks : List Remark) : Type 0 where
     pub judged : IsJudged config wanted packets segments number named verdict found remarks
     pub is_more : IsMoreOf report config judged.entries judged.others verdict found more
+    pub instead : IsInstead config wanted packets segments report number judged.entries verdict
+        found
 
   -- What is told of the connection with this number, or of the only one. What is remarked names it
   -- where several are told of.
@@ -209,7 +249,8 @@ module _ (config : Config) (report : Report) (wanted : Import) (packets : List R
   IsTold number named (Judged verdict more) remarks =
       IsReported number named verdict Nothing more remarks
   IsTold number named (NoOrder u more) remarks =
-      (verdict : VerdictValue) × IsReported number named verdict (ByNone u) more remarks
+      (verdict : VerdictValue) × (instead : OtherOrders)
+      × IsReported number named verdict (ByNone u instead) more remarks
   IsTold number named (InAnotherOrder ends more) remarks =
       (verdict : VerdictValue) × IsReported number named verdict (ByAnother ends) more remarks
   IsTold number named (UnfinishedOverAll more) remarks =

@@ -16,6 +16,7 @@ use Rattle.bgp_tool.specs.OpenedCapture.{DecodesOpened}
 use Rattle.bgp_tool.specs.declared.note.Note.{Note}
 use Rattle.bgp_tool.specs.declared.note.Note.TheVariants.{Unread, OutOfMemory}
 use Rattle.bgp_tool.specs.declared.session_options.SessionOptions.{SessionOptions}
+use Rattle.bgp_verdict_lines.specs.declared.form.VerdictForm.{VerdictForm}
 use Rattle.bgp_explain.specs.LeftOut.{nothing_left_out}
 use Rattle.bgp_explain.specs.Opened.{ReportsOpened}
 use Rattle.bgp_explain.specs.declared.report.Report.{Report}
@@ -95,14 +96,14 @@ module _ {R W X : Type 0} (remaining : R → Option (List ℕ)) (contents : W �
   abbrev pub TakesWritten : FromWrite W → FromWrite W → List ℕ → Type 0
   TakesWritten from to octets = Takes contents (writer_state from) (writer_state to) octets
 
-  abbrev pub JudgesFile : Config → Report → (Config → List ShownRecord → ShownRecord → Type 0)
-      → Type 0
-  JudgesFile config report may_lack = ReadsFile remaining file reader old new outcome
+  abbrev pub JudgesFile : Config → Report → VerdictForm
+      → (Config → List ShownRecord → ShownRecord → Type 0) → Type 0
+  JudgesFile config report form may_lack = ReadsFile remaining file reader old new outcome
       (λ from to. JudgesRecording GivesRead (λ source. (reader_state source).has_ended)
       TakesWritten (λ source. (reader_state source).failures)
-      (λ sink. (writer_state sink).failures) config report recording from to old new
+      (λ sink. (writer_state sink).failures) config report form recording from to old new
       (judged_by outcome))
-      (λ peeked. ReportsOpened (peeked_remaining remaining) contents config may_lack file peeked
+      (λ peeked. ReportsOpened form (peeked_remaining remaining) contents config may_lack file peeked
       (writer_state old) (writer_state new) (record {
         outcome = record {
           status = outcome.status;

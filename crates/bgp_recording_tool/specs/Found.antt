@@ -7,14 +7,16 @@ use Rattle.bgp_recording.specs.Captured.{records_of}
 use Rattle.bgp_recording.specs.declared.entry.Entry.{Entry}
 use Rattle.bgp_orders.specs.declared.connection.Unexplained.{Unexplained}
 use Rattle.bgp_explain.specs.Records.{AreExplained}
+use Rattle.bgp_why.specs.declared.other_orders.OtherOrders.{OtherOrders}
 use Rattle.bgp_recording_tool.specs.declared.orders.Searched.{Searched}
 use Rattle.bgp_recording_tool.specs.declared.orders.Searched.TheVariants as searches
 
 pub data Found : Type 0 where
   -- nothing that is told
   Nothing : Found
-  -- that verdict is a no, and no order explains this sent message
-  ByNone : Unexplained → Found
+  -- that verdict is a no, and no order explains this sent message; and what its reason says of
+  -- other orders
+  ByNone : Unexplained → OtherOrders → Found
   -- that verdict isn't a yes, and another order is one, with these ends
   ByAnother : List End → Found
   -- that verdict is a no, some order explains all that was sent, and none is a yes
@@ -44,7 +46,7 @@ IsYes verdict = verdict ≡ Yes (ends_of verdict)
 
 abbrev pub found_of : {X : Type 0} → Searched X → Found
 found_of searches.Nothing = Nothing
-found_of (searches.NoOrder u) = ByNone u
+found_of (searches.NoOrder u instead) = ByNone u instead
 found_of (searches.Another another) =
     ByAnother (ends_of (verdict_value another.explained.verdict))
 found_of searches.Unfinished = ByAll
@@ -52,7 +54,7 @@ found_of searches.Unfinished = ByAll
 -- the entries of the other order, if one is a yes
 abbrev pub entries_of : {X : Type 0} → Searched X → List Entry
 entries_of searches.Nothing = []
-entries_of (searches.NoOrder u) = []
+entries_of (searches.NoOrder u instead) = []
 entries_of (searches.Another another) = another.recording.entries.items
 entries_of searches.Unfinished = []
 
@@ -60,7 +62,7 @@ entries_of searches.Unfinished = []
 -- another order the verdict on its records is kept, with its reason, and is a yes.
 abbrev pub IsSought : {X : Type 0} → Config → VerdictValue → Searched X → Type 0
 IsSought config verdict searches.Nothing = Unit {0}
-IsSought config verdict (searches.NoOrder u) = IsNo verdict
+IsSought config verdict (searches.NoOrder u instead) = IsNo verdict
 IsSought config verdict (searches.Another another) =
     AreExplained config (records_of another.recording.entries.items) another.explained
     × IsYes (verdict_value another.explained.verdict)

@@ -5,9 +5,10 @@ use Rattle.packets.specs.Packet.{Recorded}
 use Rattle.streams.specs.Passed.{Segment}
 use Rattle.bgp_open.specs.declared.config.Config.{Config}
 use Rattle.mrt.specs.declared.sink.Sink as sinks
-use Rattle.bgp_text.specs.Lines.{Writes}
-use Rattle.bgp_text.specs.declared.lines.Lines.{Lines}
-use Rattle.bgp_tool.specs.Answer.{IsWritten}
+use Rattle.bgp_verdict_lines.specs.Lines.{PutsLines}
+use Rattle.bgp_verdict_lines.specs.Printed.{IsWrittenIn}
+use Rattle.bgp_verdict_lines.specs.declared.form.VerdictForm.{VerdictForm}
+use Rattle.bgp_verdict_lines.specs.declared.verdict_lines.VerdictLines.{VerdictLines}
 use Rattle.bgp_explain.specs.declared.report.Report.{Report}
 use Rattle.bgp_import.specs.Gathers.{HasReadAll, IsStopped, cut_short_by, failures_by}
 use Rattle.bgp_import.specs.Refusals.{refusal_line}
@@ -24,12 +25,12 @@ use Rattle.bgp_recording_tool.specs.Told.{refused_status}
 
 -- A text was put, its exit status is answered, and this was added to what is told of connections;
 -- and something holds of the three.
-pub record Puts {T : Type 0} {sink : sinks.Ghosts T} (lines lines' : Lines T sink)
+pub record Puts {X T : Type 0} {sink : sinks.Ghosts T} (lines lines' : VerdictLines X T sink)
     (remarks remarks' : List Remark) (status : ℕ) (Holds : List ℕ → ℕ → List Remark → Type 0)
     : Type 0 where
   pub text : List ℕ
   pub own : List Remark
-  pub wrote : Writes lines lines' text
+  pub wrote : PutsLines lines lines' text
   pub added : remarks' ≡ remarks ++ own
   pub holds : Holds text status own
 
@@ -64,17 +65,17 @@ module _ {S : Type 0} (gives : S → S → List ℕ → Type 0) (has_ended : S �
   TellsRecording text status remarks =
       TellsConnections text status remarks ⊎ TellsRefusal text status remarks
 
--- This is told of a recording; all of its text was written, if the sink didn't fail, and then the
--- status is its own; and else a beginning, and the status is 5.
+-- This is told of a recording. In this form all of its text was written, if the sink didn't fail,
+-- and then the status is its own; and else a beginning, and the status is 5.
 pub record JudgesMeant {S T : Type 0} (gives : S → S → List ℕ → Type 0) (has_ended : S → Bool)
     (takes : T → T → List ℕ → Type 0) (source_failures : S → ℕ) (failures : T → ℕ)
-    (config : Config) (report : Report) (wanted : Import) (source source' : S) (sink sink' : T)
-    (status : ℕ) (cut_short : Option CutShort) (remarks : List Remark) : Type 0 where
+    (config : Config) (report : Report) (form : VerdictForm) (wanted : Import)
+    (source source' : S) (sink sink' : T) (status : ℕ) (cut_short : Option CutShort) (remarks : List Remark) : Type 0 where
   pub text : List ℕ
   pub code : ℕ
   pub told : TellsRecording gives has_ended source_failures config report wanted source source'
       cut_short text code remarks
-  pub written : IsWritten takes failures text code sink sink' status
+  pub written : IsWrittenIn form takes failures text code sink sink' status
 
 -- No recording can be meant: nothing is read and nothing written, and it is told why, if there is
 -- memory for that.
@@ -88,12 +89,12 @@ pub record IsUnmeant {S T : Type 0} (wanted : Import) (source source' : S) (sink
   pub tells : ((status ≡ 64) × (remarks ≡ remark ∷ [])) ⊎ ((status ≡ 4) × (remarks ≡ []))
 
 abbrev pub JudgesRecording : {S T X : Type 0} → (S → S → List ℕ → Type 0) → (S → Bool)
-    → (T → T → List ℕ → Type 0) → (S → ℕ) → (T → ℕ) → Config → Report → RecordingOptions → S → S
-    → T → T → Judged X → Type 0
-JudgesRecording gives has_ended takes source_failures failures config report options
+    → (T → T → List ℕ → Type 0) → (S → ℕ) → (T → ℕ) → Config → Report → VerdictForm
+    → RecordingOptions → S → S → T → T → Judged X → Type 0
+JudgesRecording gives has_ended takes source_failures failures config report form options
     source source' sink sink' judged =
     let wanted = import_of config.parts.session options in
     IsUnmeant wanted source source' sink sink' judged.status judged.cut_short judged.remarks.items
     ⊎ (IsMisfit wanted None
-    × JudgesMeant gives has_ended takes source_failures failures config report wanted
+    × JudgesMeant gives has_ended takes source_failures failures config report form wanted
     source source' sink sink' judged.status judged.cut_short judged.remarks.items)

@@ -89,7 +89,7 @@ made_order_remark connection within entries Unfinished = None
 abbrev pub verdict_remark : Option ℕ → ℕ → List Entry → VerdictValue → Found → Option Remark
 verdict_remark connection within entries verdict Nothing =
     made_order_remark connection within entries verdict
-verdict_remark connection within entries verdict (ByNone u) =
+verdict_remark connection within entries verdict (ByNone u instead) =
     Some (remark_on connection (kinds.NoOrder u.before u.packet within))
 verdict_remark connection within entries verdict (ByAnother ends) =
     unsent_remark connection entries
@@ -98,7 +98,7 @@ verdict_remark connection within entries verdict ByAll = None
 -- that the yes is that of another order, if it is
 abbrev pub another_remark : Option ℕ → Found → Option Remark
 another_remark connection Nothing = None
-another_remark connection (ByNone u) = None
+another_remark connection (ByNone u instead) = None
 another_remark connection (ByAnother ends) = Some (remark_on connection kinds.AnotherOrder)
 another_remark connection ByAll = None
 

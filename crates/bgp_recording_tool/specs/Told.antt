@@ -35,7 +35,7 @@ told_of verdict (Some u) more = NoOrder u more
 -- what is told of a verdict on the made order, and of what is found over all orders
 abbrev pub told_with : VerdictValue → Found → List ℕ → Told
 told_with verdict Nothing more = told_of verdict None more
-told_with verdict (ByNone u) more = told_of verdict (Some u) more
+told_with verdict (ByNone u instead) more = told_of verdict (Some u) more
 told_with verdict (ByAnother ends) more = InAnotherOrder ends more
 told_with verdict ByAll more = UnfinishedOverAll more
 

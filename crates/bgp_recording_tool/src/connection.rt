@@ -9,7 +9,6 @@ ghost use Rattle.std.specs.List.{AllByRecursion};
 ghost use Rattle.packets.specs.Packet.{Recorded};
 ghost use Rattle.streams.specs.Passed.{Segment};
 ghost use Rattle.bgp_prefix.specs.declared.session.RouteRefresh.TheVariants.{Refused};
-ghost use Rattle.bgp_text.specs.Lines.{Writes};
 ghost use Rattle.bgp_judge.specs.Verdict.{verdict_value};
 ghost use Rattle.bgp_tool.specs.Status.{code_of};
 ghost use Rattle.bgp_import.specs.Gathers.{HoldsSession};
@@ -19,18 +18,20 @@ ghost use Rattle.bgp_import.specs.Refusals.{refusal_line};
 ghost use Rattle.bgp_import.specs.Selecting.{AreTaken};
 ghost use Rattle.bgp_recording.specs.Captured as captured;
 ghost use Rattle.bgp_recording.specs.Captured.{IsNoRefresh};
+ghost use Rattle.bgp_verdict_lines.specs.Lines.{PutsLines};
 ghost use Rattle.bgp_explain.specs.Moments.{first_second};
 ghost use Rattle.bgp_explain.specs.Places.{shown_places};
 ghost use Rattle.bgp_explain.specs.Records.{AreExplained, CanBeShown, SaysOrNot};
 ghost use Rattle.bgp_explain.specs.Text.{CanBePutOf};
 ghost use Rattle.bgp_recording_tool.specs.Connections.{IsMore, IsMoreOf, IsToldAs};
 ghost use Rattle.bgp_recording_tool.specs.Connections.{made_style};
+ghost use Rattle.bgp_why.specs.declared.other_orders.OtherOrders.TheVariants.{Unasked};
 ghost use Rattle.bgp_recording_tool.specs.Found.{IsNo, IsSought, entries_of, found_of};
 ghost use Rattle.bgp_recording_tool.specs.Judging.{Puts};
 ghost use Rattle.bgp_recording_tool.specs.Options.{IsOneFamily};
 ghost use Rattle.bgp_recording_tool.specs.Putting.{PutsNothing, PutsReport};
 ghost use Rattle.bgp_recording_tool.specs.Remarks.{AddsTold, IsHelp, notes_of};
-ghost use Rattle.bgp_recording_tool.specs.Told.{UnfinishedOverAll, no_order_line, refused_status};
+ghost use Rattle.bgp_recording_tool.specs.Told.{UnfinishedOverAll, refused_status};
 ghost use Rattle.bgp_recording_tool.specs.Told.{told_of, told_status, told_text, told_with};
 
 use crate::judging::{status_of, verdict_status};
@@ -38,16 +39,16 @@ use crate::orders::{Searched, search_orders};
 use crate::remark::{Remark, add_help};
 use crate::remarking::add_remarks_on;
 use bgp_explain::{ExplainedRecords, Places, Report, explain_records, put_explained_records};
-use bgp_import::{Gathered, Import, Refusal, put_refusal, records_of, refresh_in};
+use bgp_import::{Gathered, Import, Refusal, records_of, refresh_in};
 use bgp_judge::{Tracker, Verdict};
 use bgp_open::Config;
 use bgp_orders::Unexplained;
 use bgp_parts::some_show_confederations;
 use bgp_prefix::{RouteRefresh, Seconds, Session};
 use bgp_recording::{Entry, Recording};
-use bgp_text::Lines;
-use bgp_tool::{Status, put_verdict};
-use bgp_why::Style;
+use bgp_tool::Status;
+use bgp_verdict_lines::{VerdictLines, put_no_order, put_refusal, put_unfinished, put_verdict};
+use bgp_why::{OtherOrders, Style};
 use mrt::{Record, Sink};
 use std::alloc::{AllocError, Allocator};
 
@@ -89,67 +90,63 @@ fn first_second_of(entries: &[Entry<'_>]) -> Seconds
     }
 }
 
-/// Puts what explains the verdict on the records of these entries, or that memory was refused for
-/// the reason.
+/// Puts what explains the verdict on the records of these entries, with what is said of other
+/// orders, or that memory was refused for the reason.
 fn put_reason<A: Allocator + Copy, W: Sink>(
-    lines: &mut Lines<'_, W>,
+    lines: &mut VerdictLines<'_, A, W>,
     alloc: A,
     config: &Config,
     entries: &[Entry<'_>],
     explained: &ExplainedRecords<A>,
+    instead: OtherOrders,
 )
     requires explained { AreExplained config.now (captured.records_of entries.now) explained.now }
     requires can { CanBePutOf config.now.parts.session explained.now.reason }
     ensures { (more : List ℕ)
-        × SaysOrNot config.now (made_style entries.now) config.now.parts.session
+        × SaysOrNot config.now (made_style entries.now instead) config.now.parts.session
         (shown_places entries.now) (captured.records_of entries.now)
         (verdict_value explained.now.verdict) more
-        × Writes lines.old lines.new more }
+        × PutsLines lines.old lines.new more }
 {
     let (session, places) = (&config.parts.session, Places::Shown(entries));
     let details = explained.details(alloc, config);
-    let style = Style::plain(first_second_of(entries), true);
+    let style = Style {
+        other_orders: instead,
+        ..Style::plain(first_second_of(entries), true)
+    };
     put_explained_records(lines, config, &style, session, places, explained, &details);
 }
 
 /// Puts what stands after the verdict on the records of these entries.
 fn put_more<A: Allocator + Copy, W: Sink>(
-    lines: &mut Lines<'_, W>,
+    lines: &mut VerdictLines<'_, A, W>,
     alloc: A,
     config: &Config,
     report: Report,
     entries: &[Entry<'_>],
     explained: &ExplainedRecords<A>,
+    instead: OtherOrders,
 )
     requires explained { AreExplained config.now (captured.records_of entries.now) explained.now }
     requires can { CanBePutOf config.now.parts.session explained.now.reason }
     ensures { (more : List ℕ)
-        × IsMore report config.now entries.now (verdict_value explained.now.verdict) more
-        × Writes lines.old lines.new more }
+        × IsMore report config.now entries.now instead (verdict_value explained.now.verdict) more
+        × PutsLines lines.old lines.new more }
 {
     match report {
         Report::VerdictAlone => {}
-        Report::WithReason => put_reason(lines, alloc, config, entries, explained),
+        Report::WithReason => put_reason(lines, alloc, config, entries, explained, instead),
     }
-}
-
-/// Puts the line of a no over all orders.
-fn put_no_order<W: Sink>(lines: &mut Lines<'_, W>, packet: u64)
-    ensures { Writes lines.old lines.new (no_order_line packet) }
-{
-    lines.put(b"no at packet ");
-    lines.put_decimal(packet as u128);
-    lines.put(b"\n");
 }
 
 /// Puts the text of the verdict, or the line of the sent message that no order explains, if there
 /// is one.
-fn put_answer<A: Allocator, W: Sink>(
-    lines: &mut Lines<'_, W>,
+fn put_answer<A: Allocator + Copy, W: Sink>(
+    lines: &mut VerdictLines<'_, A, W>,
     verdict: &Verdict<A>,
     unexplained: Option<Unexplained>,
 )
-    ensures { Writes lines.old lines.new (told_text
+    ensures { PutsLines lines.old lines.new (told_text
         (told_of (verdict_value verdict.now) unexplained [])) }
 {
     match unexplained {
@@ -161,33 +158,34 @@ fn put_answer<A: Allocator, W: Sink>(
 /// Puts the verdict on the records of these entries, or the sent message that no order explains,
 /// and what stands after it, and answers its exit status.
 fn put_report<A: Allocator + Copy, W: Sink>(
-    lines: &mut Lines<'_, W>,
+    lines: &mut VerdictLines<'_, A, W>,
     alloc: A,
     config: &Config,
     report: Report,
     entries: &[Entry<'_>],
     explained: &ExplainedRecords<A>,
     unexplained: Option<Unexplained>,
+    instead: OtherOrders,
 ) -> Status
     requires explained { AreExplained config.now (captured.records_of entries.now) explained.now }
     requires can { CanBePutOf config.now.parts.session explained.now.reason }
     requires is_no { IfSome unexplained (λ u. IsNo (verdict_value explained.now.verdict)) }
     ensures { (more : List ℕ)
-        × IsMore report config.now entries.now (verdict_value explained.now.verdict) more
-        × Writes lines.old lines.new (told_text
+        × IsMore report config.now entries.now instead (verdict_value explained.now.verdict) more
+        × PutsLines lines.old lines.new (told_text
         (told_of (verdict_value explained.now.verdict) unexplained more))
         × (code_of result
         ≡ told_status (told_of (verdict_value explained.now.verdict) unexplained more)) }
 {
     put_answer(lines, &explained.verdict, unexplained);
-    put_more(lines, alloc, config, report, entries, explained);
+    put_more(lines, alloc, config, report, entries, explained, instead);
     verdict_status(&explained.verdict)
 }
 
 /// Puts that it is unfinished over all orders, and what stands after the verdict on the records of
 /// these entries, a no; and answers its exit status.
 fn put_over_all<A: Allocator + Copy, W: Sink>(
-    lines: &mut Lines<'_, W>,
+    lines: &mut VerdictLines<'_, A, W>,
     alloc: A,
     config: &Config,
     report: Report,
@@ -197,19 +195,20 @@ fn put_over_all<A: Allocator + Copy, W: Sink>(
     requires explained { AreExplained config.now (captured.records_of entries.now) explained.now }
     requires can { CanBePutOf config.now.parts.session explained.now.reason }
     ensures put { (more : List ℕ)
-        × IsMore report config.now entries.now (verdict_value explained.now.verdict) more
-        × Writes lines.old lines.new (told_text (UnfinishedOverAll more)) }
+        × IsMore report config.now entries.now Unasked (verdict_value explained.now.verdict) more
+        × PutsLines lines.old lines.new (told_text (UnfinishedOverAll more)) }
     ensures status { code_of result ≡ 2 }
 {
-    lines.put(b"unfinished\n");
-    put_more(lines, alloc, config, report, entries, explained);
+    put_unfinished(lines);
+    let instead = OtherOrders::Unasked;
+    put_more(lines, alloc, config, report, entries, explained, instead);
     Status::Unfinished
 }
 
 /// Puts what is reported on the records of these entries, or on those of another order that is a
 /// yes, and answers its exit status.
 fn put_searched<A: Allocator + Copy, W: Sink>(
-    lines: &mut Lines<'_, W>,
+    lines: &mut VerdictLines<'_, A, W>,
     alloc: A,
     config: &Config,
     report: Report,
@@ -223,14 +222,19 @@ fn put_searched<A: Allocator + Copy, W: Sink>(
     ensures { (more : List ℕ)
         × IsMoreOf report config.now entries.now (entries_of searched.now)
         (verdict_value explained.now.verdict) (found_of searched.now) more
-        × Writes lines.old lines.new (told_text
+        × PutsLines lines.old lines.new (told_text
         (told_with (verdict_value explained.now.verdict) (found_of searched.now) more))
         × (code_of result ≡ told_status
         (told_with (verdict_value explained.now.verdict) (found_of searched.now) more)) }
 {
     match searched {
-        Searched::Nothing => put_report(lines, alloc, config, report, entries, explained, None),
-        Searched::NoOrder(unexplained) => {
+        Searched::Nothing => {
+            let instead = OtherOrders::Unasked;
+            put_report(
+                lines, alloc, config, report, entries, explained, None, instead,
+            )
+        }
+        Searched::NoOrder(unexplained, instead) => {
             let unexplained = Some(*unexplained);
             put_report(
                 lines,
@@ -240,6 +244,7 @@ fn put_searched<A: Allocator + Copy, W: Sink>(
                 entries,
                 explained,
                 unexplained,
+                *instead,
             )
         }
         Searched::Unfinished => put_over_all(lines, alloc, config, report, entries, explained),
@@ -253,6 +258,7 @@ fn put_searched<A: Allocator + Copy, W: Sink>(
                 entries,
                 &another.explained,
                 None,
+                OtherOrders::Unasked,
             )
         }
     }
@@ -272,7 +278,7 @@ fn report_made<A: Allocator + Copy, T: Tracker<A>, W: Sink>(
     number: Option<usize>,
     named: Option<usize>,
     made: &Recording<'_, A>,
-    lines: &mut Lines<'_, W>,
+    lines: &mut VerdictLines<'_, A, W>,
     remarks: &mut Vec<Remark, A>,
 ) -> Result<Status, AllocError>
     requires holds { HoldsTaken import.now.selection gathered.now }
@@ -292,7 +298,9 @@ fn report_made<A: Allocator + Copy, T: Tracker<A>, W: Sink>(
     let entries = made.entries.as_slice();
     let explained = explain_records::<A, T>(alloc, config, &made.records)?;
     let verdict = &explained.verdict;
-    let searched = search_orders::<A, T>(alloc, config, import, gathered, number, verdict);
+    let searched = search_orders::<A, T>(
+        alloc, config, report, import, gathered, number, entries, verdict,
+    );
     let confederation = some_show_confederations(&made.records);
     add_remarks_on(
         remarks,
@@ -309,12 +317,12 @@ fn report_made<A: Allocator + Copy, T: Tracker<A>, W: Sink>(
 
 /// Puts the line of a refusal, adds what helps, and answers its exit status.
 pub(crate) fn put_refused<A: Allocator + Copy, W: Sink>(
-    lines: &mut Lines<'_, W>,
+    lines: &mut VerdictLines<'_, A, W>,
     remarks: &mut Vec<Remark, A>,
     named: Option<usize>,
     refusal: Refusal,
 ) -> Status
-    ensures writes { Writes lines.old lines.new (refusal_line refusal) }
+    ensures writes { PutsLines lines.old lines.new (refusal_line refusal) }
     ensures helps { AddsTold remarks.old.items remarks.new.items (IsHelp named refusal) }
     ensures status { code_of result ≡ refused_status refusal }
 {
@@ -333,7 +341,7 @@ pub(crate) fn report_connection<A: Allocator + Copy, T: Tracker<A>, W: Sink>(
     gathered: &Gathered<A>,
     number: Option<usize>,
     named: Option<usize>,
-    lines: &mut Lines<'_, W>,
+    lines: &mut VerdictLines<'_, A, W>,
     remarks: &mut Vec<Remark, A>,
 ) -> Status
     requires session { import.now.selection.session ≡ config.now.parts.session }

@@ -19,6 +19,7 @@ use bgp_import::{CutShort, RecordingOptions};
 use bgp_judge::Tracker;
 use bgp_open::Config;
 use bgp_tool::{Note, Outcome, Ready, SessionOptions, decode_opened_capture, unopened, unwritten};
+use bgp_verdict_lines::VerdictForm;
 use mrt::{FromRead, FromWrite, Sink, SkippedRecords};
 use std::alloc::Allocator;
 use std::io;
@@ -120,14 +121,15 @@ fn recording_note<'a, R: Read, W: Write>(
 
 /// Judges a file that a reader gives, if it could be opened: a recording, as
 /// [`judge_recording`](crate::judge_recording) does, or else a capture, as
-/// [`judge_opened`](bgp_explain::judge_opened) does, with the reason or without. Its first four
-/// octets tell which it is. A closed pipe is status 5 and not told.
+/// [`judge_opened`](bgp_explain::judge_opened) does, with the reason or without, as text or in JSON.
+/// Its first four octets tell which it is. A closed pipe is status 5 and not told.
 ///
 /// The reader is asked for few octets at a time: put a buffer before a file.
 pub fn judge_file<'a, A: Allocator + Copy, T: Tracker<A>, R: Read + Drop, W: Write>(
     alloc: A,
     config: &Config,
     report: Report,
+    form: VerdictForm,
     options: &RecordingOptions,
     file: &'a str,
     opened: io::Result<R>,
@@ -135,7 +137,7 @@ pub fn judge_file<'a, A: Allocator + Copy, T: Tracker<A>, R: Read + Drop, W: Wri
 ) -> FileOutcome<'a, A>
     requires { (writer_state sink.old).failures < 2 ^ 63 }
     ensures reported { IfOk opened (λ reader. JudgesFile R.remaining W.contents options.now
-        file.entry reader sink.old sink.new result config.now report T.may_lack) }
+        file.entry reader sink.old sink.new result config.now report form T.may_lack) }
     ensures unopened { IfErr opened (λ error. IsUnopened file.entry (error_kind error)
         (record { status = result.status; skipped = result.skipped; note = result.note })
         × (result.cut_short ≡ None) × IsFalse result.confederation
@@ -150,7 +152,15 @@ pub fn judge_file<'a, A: Allocator + Copy, T: Tracker<A>, R: Read + Drop, W: Wri
         }
     };
     if !peeked.is_recording() {
-        let judged = judge_opened::<A, T, _, W>(alloc, config, report, file, Ok(peeked), sink);
+        let judged = judge_opened::<A, T, _, W>(
+            alloc,
+            config,
+            report,
+            form,
+            file,
+            Ok(peeked),
+            sink,
+        );
         let JudgedCapture {
             outcome,
             confederation,
@@ -160,7 +170,15 @@ pub fn judge_file<'a, A: Allocator + Copy, T: Tracker<A>, R: Read + Drop, W: Wri
     }
     let mut source = FromRead::new(peeked);
     let failures = sink.failures();
-    let judged = judge_recording::<A, T, _, _>(alloc, config, report, options, &mut source, sink);
+    let judged = judge_recording::<A, T, _, _>(
+        alloc,
+        config,
+        report,
+        form,
+        options,
+        &mut source,
+        sink,
+    );
     let note = recording_note(judged.status, file, &source, sink, failures);
     FileOutcome {
         status: judged.status,

@@ -16,8 +16,7 @@ use bgp_judge::{Tracker, records_have_just_one_verdict};
 use bgp_open::Config;
 use bgp_orders::{no_order_explains_a_no, runs_of_entries_are_whole};
 use bgp_recording::made_records_are_read;
-use bgp_text::Lines;
-use bgp_tool::hand_over;
+use bgp_verdict_lines::{VerdictForm, VerdictLines};
 use mrt::{Sink, Source, each_capture_has_one_reading};
 use std::alloc::Allocator;
 
@@ -72,6 +71,10 @@ use std::alloc::Allocator;
 /// [`recordings_are_explained_as_judged`](crate::recordings_are_explained_as_judged) the verdict is
 /// the one that is told without a reason.
 ///
+/// In JSON it writes the objects of lines that have just this text, a line each
+/// (`specs/Printed` of bgp_verdict_lines). If memory is refused for one, those before it are
+/// written, and the status is 4.
+///
 /// A recording that was cut short is judged by what it has, and it is told that it was. A remark
 /// says of each connection whether its records show an UPDATE of a confederation (RFC 5065), which
 /// isn't judged.
@@ -83,6 +86,7 @@ pub fn judge_recording<A: Allocator + Copy, T: Tracker<A>, R: Source, W: Sink>(
     alloc: A,
     config: &Config,
     report: Report,
+    form: VerdictForm,
     options: &RecordingOptions,
     source: &mut R,
     sink: &mut W,
@@ -90,14 +94,14 @@ pub fn judge_recording<A: Allocator + Copy, T: Tracker<A>, R: Source, W: Sink>(
     requires source { R.failures source.old < 2 ^ 63 }
     requires sink { W.failures sink.old < 2 ^ 63 }
     ensures { JudgesRecording R.gives R.has_ended W.takes R.failures W.failures config.now
-        report options.now source.old source.new sink.old sink.new result }
+        report form options.now source.old source.new sink.old sink.new result }
 {
     let import = import_of(&config.parts.session, options);
     if let Some(remark) = misfit_of(&import) {
         return misfit(alloc, remark);
     }
     let mut remarks = Vec::new(alloc);
-    let mut lines = Lines::new(sink);
+    let mut lines = VerdictLines::new(form, alloc, sink);
     let (status, cut_short) = judge_source::<A, T, R, W>(
         alloc,
         config,
@@ -107,7 +111,7 @@ pub fn judge_recording<A: Allocator + Copy, T: Tracker<A>, R: Source, W: Sink>(
         &mut lines,
         &mut remarks,
     );
-    let status = hand_over(&mut lines, status);
+    let status = lines.finish(status);
     // No effect: it ends the loan of the sink.
     lines.into_sink();
     Judged {

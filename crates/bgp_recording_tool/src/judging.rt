@@ -17,11 +17,11 @@ ghost use Rattle.bgp_recording_tool.specs.Told.{refused_status, status_over, val
 use crate::connection::{put_refused, report_connection};
 use crate::remark::{Remark, add_remarks};
 use bgp_explain::Report;
-use bgp_import::{Cause, CutShort, Gathered, Import, Refusal, gather, put_opening};
+use bgp_import::{Cause, CutShort, Gathered, Import, Refusal, gather};
 use bgp_judge::{Tracker, Verdict};
 use bgp_open::Config;
-use bgp_text::Lines;
 use bgp_tool::Status;
+use bgp_verdict_lines::{VerdictLines, put_opening};
 use mrt::{Sink, Source};
 use std::alloc::Allocator;
 
@@ -81,7 +81,7 @@ fn judge_each<A: Allocator + Copy, T: Tracker<A>, W: Sink>(
     report: Report,
     import: &Import,
     gathered: &Gathered<A>,
-    lines: &mut Lines<'_, W>,
+    lines: &mut VerdictLines<'_, A, W>,
     remarks: &mut Vec<Remark, A>,
 ) -> Status
     requires session { import.now.selection.session ≡ config.now.parts.session }
@@ -101,7 +101,6 @@ fn judge_each<A: Allocator + Copy, T: Tracker<A>, W: Sink>(
             unreachable!();
         };
         put_opening(lines, &config.parts.session, opening);
-        lines.put(b"\n");
         let told = report_connection::<A, T, W>(
             alloc,
             config,
@@ -125,7 +124,7 @@ fn judge_gathered<A: Allocator + Copy, T: Tracker<A>, W: Sink>(
     report: Report,
     import: &Import,
     gathered: &Gathered<A>,
-    lines: &mut Lines<'_, W>,
+    lines: &mut VerdictLines<'_, A, W>,
     remarks: &mut Vec<Remark, A>,
 ) -> Status
     requires session { import.now.selection.session ≡ config.now.parts.session }
@@ -154,7 +153,7 @@ pub(crate) fn judge_source<A: Allocator + Copy, T: Tracker<A>, R: Source, W: Sin
     report: Report,
     import: &Import,
     source: &mut R,
-    lines: &mut Lines<'_, W>,
+    lines: &mut VerdictLines<'_, A, W>,
     remarks: &mut Vec<Remark, A>,
 ) -> (Status, Option<CutShort>)
     requires session { import.now.selection.session ≡ config.now.parts.session }

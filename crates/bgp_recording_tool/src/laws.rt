@@ -2,12 +2,13 @@
 //! function that does nothing.
 
 ghost use Rattle.bgp_recording_tool.specs.Decoding.{PlainLines};
-ghost use Rattle.bgp_recording_tool.specs.Laws.{MadeCouldHaveStood};
+ghost use Rattle.bgp_recording_tool.specs.Laws.{MadeCouldHaveStood, OthersCouldHaveBeen};
 ghost use Rattle.bgp_recording_tool.specs.Laws.{RecordingsAreExplainedAsJudged};
 ghost use Rattle.bgp_recording_tool.specs.Laws.{RecordingsAreExplainedInOneWay};
 
 use bgp_explain::{each_reason_has_one_text, what_could_have_stood_is_told};
 use bgp_import::recordings_are_made_once;
+use bgp_instead::each_message_is_of_a_kind;
 use bgp_judge::records_have_just_one_verdict;
 use bgp_recording::made_records_are_read;
 
@@ -17,6 +18,19 @@ pub fn made_records_could_have_stood()
     ensures { MadeCouldHaveStood }
 {
     what_could_have_stood_is_told();
+}
+
+/// If the reason of a no over all orders says what could have been sent in other orders, the record
+/// that it is about is the sent message that no order explains. Each kind that is said could have
+/// been sent in its place in some order that the packets allow, and each message that could have
+/// been is of one of these kinds. The lines `in another order` are those of these kinds that the
+/// lines on the made order don't have ([`other_orders_tell_the_rest`]).
+///
+/// [`other_orders_tell_the_rest`]: bgp_why::other_orders_tell_the_rest
+pub fn others_could_have_been_sent()
+    ensures { OthersCouldHaveBeen }
+{
+    each_message_is_of_a_kind();
 }
 
 /// The verdict that is explained of a connection's made order is the one that

@@ -38,7 +38,7 @@ pub use headline::{
 pub use judging::{Judged, status_of};
 pub use laws::{
     each_record_has_one_plain_line, each_recording_is_explained_in_one_way,
-    made_records_could_have_stood, recordings_are_explained_as_judged,
+    made_records_could_have_stood, others_could_have_been_sent, recordings_are_explained_as_judged,
 };
 pub use options::import_of;
 pub use peeked::Peeked;

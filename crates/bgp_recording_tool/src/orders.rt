@@ -10,16 +10,19 @@ ghost use Rattle.bgp_import.specs.Selecting.{AreTaken};
 ghost use Rattle.bgp_recording.specs.Captured.{records_of};
 ghost use Rattle.bgp_recording.specs.Gathered.{IsClocked, IsCovered};
 ghost use Rattle.bgp_explain.specs.Records.{AreExplained};
-ghost use Rattle.bgp_recording_tool.specs.Connections.{IsFound, IsFoundOver, IsYesOver};
+ghost use Rattle.bgp_recording_tool.specs.Connections.{AreInsteadOver, IsFound, IsFoundOver};
+ghost use Rattle.bgp_recording_tool.specs.Connections.{IsInstead, IsInsteadOver, IsYesOver};
 ghost use Rattle.bgp_recording_tool.specs.Found.{IsNo, IsNoYes, IsSought, IsYes};
 ghost use Rattle.bgp_recording_tool.specs.Found.{ends_of, entries_of, found_of};
 
-use bgp_explain::{ExplainedRecords, explain_records};
+use bgp_explain::{ExplainedRecords, Report, explain_records};
 use bgp_import::{Gathered, Import};
+use bgp_instead::other_orders;
 use bgp_judge::{Tracker, Verdict};
 use bgp_open::Config;
 use bgp_orders::{OverOrders, Unexplained, record_whole_way, verdict_over_orders};
-use bgp_recording::{Framings, Recording};
+use bgp_recording::{Entry, Framings, Recording};
+use bgp_why::OtherOrders;
 use std::alloc::Allocator;
 use streams::Connection;
 
@@ -37,8 +40,8 @@ pub(crate) struct AnotherOrder<'a, A: Allocator> {
 pub(crate) enum Searched<'a, A: Allocator> {
     /// Nothing: that verdict is reported.
     Nothing,
-    /// No order explains this sent message.
-    NoOrder(Unexplained),
+    /// No order explains this sent message; and what its reason says of other orders.
+    NoOrder(Unexplained, OtherOrders),
     /// Another order is a yes.
     Another(AnotherOrder<'a, A>),
     /// Some order explains all that was sent, and none is a yes.
@@ -98,14 +101,48 @@ fn another_yes<'a, A: Allocator + Copy, T: Tracker<A>>(
     })
 }
 
+/// Returns what a reason says of other orders, if one is wanted, where no order explains the sent
+/// message behind so many, and this is the verdict on the records of the made entries.
+fn instead_of<A: Allocator + Copy>(
+    alloc: A,
+    config: &Config,
+    report: Report,
+    connection: &Connection<'_>,
+    framings: Framings,
+    within: u16,
+    before: usize,
+    made: &[Entry<'_>],
+    verdict: &Verdict<A>,
+) -> OtherOrders
+    requires received { IsCovered connection.now.received }
+    requires sent { IsCovered connection.now.sent }
+    ensures { IsClocked connection.now → AreInsteadOver report config.now within framings
+        connection.now before made.now (verdict_value verdict.now) result }
+{
+    match report {
+        Report::VerdictAlone => OtherOrders::Unasked,
+        Report::WithReason => match verdict {
+            Verdict::Yes(_) | Verdict::Unfinished => OtherOrders::Unasked,
+            Verdict::No(count) => {
+                let count = *count as usize;
+                other_orders(
+                    alloc, config, connection, framings, within, before, made, count,
+                )
+            }
+        },
+    }
+}
+
 /// Returns what is found over all orders of the connection's messages, if this is the verdict on the
-/// made one.
+/// records of the made entries.
 fn search_connection<'a, A: Allocator + Copy, T: Tracker<A>>(
     alloc: A,
     config: &Config,
+    report: Report,
     connection: &Connection<'a>,
     framings: Framings,
     within: u16,
+    made: &[Entry<'_>],
     verdict: &Verdict<A>,
 ) -> Searched<'a, A>
     requires received { IsCovered connection.now.received }
@@ -113,9 +150,17 @@ fn search_connection<'a, A: Allocator + Copy, T: Tracker<A>>(
     ensures sought { IsSought config.now (verdict_value verdict.now) result }
     ensures found { IsClocked connection.now → IsFoundOver config.now within framings
         connection.now (entries_of result) (found_of result) }
+    ensures instead { IsClocked connection.now → IsInsteadOver report config.now within framings
+        connection.now made.now (verdict_value verdict.now) (found_of result) }
 {
     match verdict_over_orders(alloc, config, connection, framings, within) {
-        Ok(OverOrders::No(unexplained)) if is_no(verdict) => Searched::NoOrder(unexplained),
+        Ok(OverOrders::No(unexplained)) if is_no(verdict) => {
+            let before = unexplained.before;
+            let instead = instead_of(
+                alloc, config, report, connection, framings, within, before, made, verdict,
+            );
+            Searched::NoOrder(unexplained, instead)
+        }
         Ok(OverOrders::Yes) => {
             match another_yes::<A, T>(alloc, config, connection, framings, within) {
                 Some(another) => Searched::Another(another),
@@ -129,13 +174,15 @@ fn search_connection<'a, A: Allocator + Copy, T: Tracker<A>>(
 }
 
 /// Returns what is found over all orders of the connection of this number, or of the only one, if
-/// the verdict on the made one isn't a yes. Else nothing is searched.
+/// the verdict on the records of the made entries isn't a yes. Else nothing is searched.
 pub(crate) fn search_orders<'a, A: Allocator + Copy, T: Tracker<A>>(
     alloc: A,
     config: &Config,
+    report: Report,
     import: &Import,
     gathered: &'a Gathered<A>,
     number: Option<usize>,
+    made: &[Entry<'_>],
     verdict: &Verdict<A>,
 ) -> Searched<'a, A>
     requires holds { HoldsTaken import.now.selection gathered.now }
@@ -145,6 +192,11 @@ pub(crate) fn search_orders<'a, A: Allocator + Copy, T: Tracker<A>>(
         → HoldsSession (reverse segments) (length packets) gathered.now
         → IsFound config.now import.now packets segments number (verdict_value verdict.now)
         (entries_of result) (found_of result) }
+    ensures instead { (packets : List Recorded) (segments : List Segment)
+        → AreTaken import.now.selection 0 packets segments
+        → HoldsSession (reverse segments) (length packets) gathered.now
+        → IsInstead config.now import.now packets segments report number made.now
+        (verdict_value verdict.now) (found_of result) }
 {
     if is_yes(verdict) {
         return Searched::Nothing;
@@ -153,5 +205,15 @@ pub(crate) fn search_orders<'a, A: Allocator + Copy, T: Tracker<A>>(
         return Searched::Nothing;
     };
     let framings = Framings::of_session(&import.selection.session);
-    search_connection::<A, T>(alloc, config, &connection, framings, import.within, verdict)
+    let within = import.within;
+    search_connection::<A, T>(
+        alloc,
+        config,
+        report,
+        &connection,
+        framings,
+        within,
+        made,
+        verdict,
+    )
 }

@@ -159,7 +159,7 @@ fn verdict_remark<A: Allocator>(
 {
     match searched {
         Searched::Nothing => made_order_remark(connection, within, entries, verdict),
-        Searched::NoOrder(unexplained) => Some(Remark {
+        Searched::NoOrder(unexplained, _) => Some(Remark {
             connection,
             kind: RemarkKind::NoOrder {
                 before: unexplained.before,
@@ -180,7 +180,7 @@ fn another_remark<A: Allocator>(
     ensures { result ≡ another_remark connection (found_of searched.now) }
 {
     match searched {
-        Searched::Nothing | Searched::NoOrder(_) | Searched::Unfinished => None,
+        Searched::Nothing | Searched::NoOrder(..) | Searched::Unfinished => None,
         Searched::Another(_) => Some(Remark {
             connection,
             kind: RemarkKind::AnotherOrder,

@@ -6,6 +6,7 @@ use bgp_explain::{JudgedCapture, Report, explain_capture, judge_opened};
 use bgp_open::{Config, ConfigParts};
 use bgp_tool::{CaptureCommand, Form, Note};
 use bgp_vectors::ROUTER_A;
+use bgp_verdict_lines::VerdictForm;
 use linked_list_allocator::LocalHeap;
 use mrt::{FromWrite, MemSink, MemSource, SinkUpset};
 use std::alloc::Global;
@@ -47,6 +48,7 @@ fn is_broken(alloc: Global) -> Option<bool> {
     let status = explain_capture::<Global, CompactTracker, _, _>(
         alloc,
         &config,
+        VerdictForm::Text,
         &mut source,
         &mut sink,
     );
@@ -110,6 +112,7 @@ fn explained_with(alloc: Global, size: usize) -> Option<Outcome> {
     let status = explain_capture::<&LocalHeap, CompactTracker<&LocalHeap>, _, _>(
         &heap,
         &config,
+        VerdictForm::Text,
         &mut source,
         &mut sink,
     );
@@ -132,6 +135,85 @@ fn a_verdict_is_told_without_memory_for_its_reason(rt: HostRuntime) {
     assert!(rt; is_told_without_reason(rt.alloc()) == Some(true));
 }
 
+/// The verdict of the same in JSON.
+const WRONG_VERDICT: &str = "{\"type\":\"verdict\",\"judged\":1,\"answer\":\"no\",\"record\":2}\n";
+
+/// Its reason in JSON.
+const WRONG_REASON: &str = "\
+{\"type\":\"record\",\"judged\":1,\"record\":2,\"second\":100,\"address\":\"192.0.2.1\",\
+\"deed\":\"sent OPEN to 192.0.2.2, not allowed here: Hold Time 90, configured 180\"}
+{\"type\":\"message\",\"judged\":1,\
+\"line\":\"open as 65001 hold 90 id 192.0.2.1 | Multiprotocol IPv4 unicast | \
+Multiprotocol IPv6 unicast | Four-octet AS 65001\"}
+{\"type\":\"state\",\"judged\":1,\"state\":\"Connect\",\"record\":1,\"second\":100}
+{\"type\":\"possible\",\"judged\":1,\"owed\":false,\"next\":false,\"first\":true,\
+\"item\":\"any message received\"}
+{\"type\":\"possible\",\"judged\":1,\"owed\":false,\"next\":false,\"first\":false,\
+\"item\":\"OPEN sent [RFC 4271 4.2]\",\"but\":\"this one: Hold Time 90, configured 180\"}
+{\"type\":\"possible\",\"judged\":1,\"owed\":false,\"next\":false,\"first\":false,\
+\"item\":\"the session ends, Connect to Idle [RFC 4271 8.2.2]\"}
+{\"type\":\"possible\",\"judged\":1,\"owed\":false,\"next\":false,\"first\":false,\
+\"item\":\"the same state once more, Connect\"}
+{\"type\":\"possible\",\"judged\":1,\"owed\":false,\"next\":false,\"first\":false,\
+\"item\":\"change of state, Connect to OpenSent [RFC 4271 8.2.2]\"}
+";
+
+/// What is written in JSON in place of the reason, if memory is refused for it.
+const NO_REASON: &str =
+    "{\"type\":\"note\",\"judged\":1,\"text\":\"out of memory for the reason\"}\n";
+
+/// What is written in JSON, if memory is refused for the verdict.
+const NO_VERDICT: &str = "{\"type\":\"refused\",\"what\":\"capture\",\"number\":10";
+
+/// Whether a text is a beginning of one line after another, or of others.
+fn is_beginning(text: &str) -> bool {
+    let reason = match text.strip_prefix(WRONG_VERDICT) {
+        Some(reason) => reason,
+        None => return text.is_empty() || text.starts_with(NO_VERDICT),
+    };
+    (reason.is_empty() || reason.ends_with('\n')) && WRONG_REASON.starts_with(reason)
+}
+
+/// What comes of a no in JSON with a heap of this size; `None` where something else is written.
+fn told_with(alloc: Global, size: usize) -> Option<Outcome> {
+    let (config, capture) = (config_with(180)?, opened(alloc)?);
+    let heap = LocalHeap::new(alloc, size).ok()?;
+    let mut source = MemSource::new(capture);
+    let mut sink = MemSink::new(alloc);
+    let status = explain_capture::<&LocalHeap, CompactTracker<&LocalHeap>, _, _>(
+        &heap,
+        &config,
+        VerdictForm::Json,
+        &mut source,
+        &mut sink,
+    );
+    let text = std::str::from_utf8(sink.octets()).ok()?;
+    let reason = text.strip_prefix(WRONG_VERDICT);
+    match status {
+        1 if reason == Some(WRONG_REASON) => Some(Outcome::Explained),
+        1 if reason == Some(NO_REASON) => Some(Outcome::Unexplained),
+        4 if is_beginning(text) => Some(Outcome::Refused),
+        _ => None,
+    }
+}
+
+/// Whether with each heap whole lines in JSON are written, and if memory is refused for one, those
+/// before it, with the status of memory.
+fn is_told_as_far(alloc: Global) -> Option<bool> {
+    let (mut explained, mut refused) = (false, false);
+    for step in 1..256 {
+        let outcome = told_with(alloc, READING + 32 * step)?;
+        explained = explained || outcome == Outcome::Explained;
+        refused = refused || outcome == Outcome::Refused;
+    }
+    Some(explained && refused)
+}
+
+#[test]
+fn lines_in_json_are_told_as_far_as_memory_goes(rt: HostRuntime) {
+    assert!(rt; is_told_as_far(rt.alloc()) == Some(true));
+}
+
 /// Whether this is told of a file, with this exit status.
 fn is_told(
     alloc: Global,
@@ -144,6 +226,7 @@ fn is_told(
         alloc,
         &config,
         Report::WithReason,
+        VerdictForm::Text,
         "a.mrt",
         opened,
         &mut sink,

@@ -5,6 +5,7 @@ use bgp_compact::CompactTracker;
 use bgp_explain::{Report, judge_opened};
 use bgp_judge::{PlainTracker, Tracker};
 use bgp_tool::{Note, Outcome, Seen};
+use bgp_verdict_lines::VerdictForm;
 use linked_list_allocator::LocalHeap;
 use mrt::FromWrite;
 use std::alloc::{Allocator, Global};
@@ -18,7 +19,8 @@ fn judged<A: Allocator + Copy, T: Tracker<A>>(
     let mut sink = FromWrite::new(Vec::new(alloc));
     let change = Ok(OPENED.get(..36)?);
     let report = Report::VerdictAlone;
-    let judged = judge_opened::<A, T, _, _>(memory, config, report, "a", change, &mut sink);
+    let form = VerdictForm::Text;
+    let judged = judge_opened::<A, T, _, _>(memory, config, report, form, "a", change, &mut sink);
     Some((judged.outcome, sink.into_inner()))
 }
 

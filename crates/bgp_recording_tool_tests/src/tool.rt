@@ -11,6 +11,7 @@ use bgp_judge::PlainTracker;
 use bgp_open::Config;
 use bgp_recording_tool::judge_recording;
 use bgp_vectors::ROUTER_A;
+use bgp_verdict_lines::VerdictForm;
 use linked_list_allocator::LocalHeap;
 use mrt::{MemSink, MemSource, SourceUpset};
 use std::alloc::{Allocator, Global};
@@ -58,6 +59,7 @@ fn judged<A: Allocator + Copy>(memory: A, alloc: Global, call: u64) -> Option<Ou
         memory,
         &config,
         Report::VerdictAlone,
+        VerdictForm::Text,
         &OPTIONS,
         &mut source,
         &mut sink,

@@ -7,3 +7,4 @@ mod WholeMessage
 mod Applied
 mod Named
 pub mod ToldLines
+mod Besides

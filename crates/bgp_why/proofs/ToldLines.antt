@@ -50,13 +50,13 @@ module _ (P : Item → Type 0) where
   Some_in [] = ⊥
   Some_in (item ∷ rest) = IsIn item ⊎ Some_in rest
 
-  some_of : (xs : List (Option Item)) → Has P (those_possible xs) → Some_in xs
+  pub some_of : (xs : List (Option Item)) → Has P (those_possible xs) → Some_in xs
   some_of [] h = h
   some_of (None ∷ xs) h = inr (some_of xs h)
   some_of (Some item ∷ xs) (inl h) = inl h
   some_of (Some item ∷ xs) (inr h) = inr (some_of xs h)
 
-  has_some : (xs : List (Option Item)) → Some_in xs → Has P (those_possible xs)
+  pub has_some : (xs : List (Option Item)) → Some_in xs → Has P (those_possible xs)
   has_some [] h = h
   has_some (None ∷ xs) (inl h) = absurd h
   has_some (None ∷ xs) (inr h) = has_some xs h
@@ -194,7 +194,7 @@ module _ (config : Config) (link : Option Link) (p : Possible) where
   changed_told second old new fsms.OpenConfirm from to has = inr (inr (inr (inr (inr (inr (inr (inr (inr (inr (inr (inr (inr (inr (inr (inl (put (IsOf (Changed second old new)) p.changes.open_confirm (items.Change p.state fsms.OpenConfirm) has (from, to)))))))))))))))))
   changed_told second old new fsms.Established from to has = inr (inr (inr (inr (inr (inr (inr (inr (inr (inr (inr (inr (inr (inr (inr (inr (inl (put (IsOf (Changed second old new)) p.changes.established (items.Change p.state fsms.Established) has (from, to))))))))))))))))))
 
-  told_if : (shown : ShownRecord) → IsAmong config link p shown → Some_in (IsOf shown) (all_items p)
+  pub told_if : (shown : ShownRecord) → IsAmong config link p shown → Some_in (IsOf shown) (all_items p)
   told_if (Received second o) h = inl (put (IsOf (Received second o)) p.message items.ReceivedMessage h refl)
   told_if (Sent second o) (frame, inl x) = inr (inl (put (IsOf (Sent second o)) p.own_open items.SentOpen x.0 (frame, x.1)))
   told_if (Sent second o) (frame, inr (inl x)) = inr (inr (inl (put (IsOf (Sent second o)) p.keepalive items.SentKeepalive x.0 (frame, x.1))))
@@ -281,7 +281,7 @@ module _ (config : Config) (link : Option Link) (p : Possible) where
   among_changed second old new (inr (inr (inr (inr (inr (inr (inr (inr (inr (inr (inr (inr (inr (inr (inr (inr (inl x))))))))))))))))) = let h = taken (IsOf (Changed second old new)) p.changes.established (items.Change p.state fsms.Established) x in (h.1.0, (fsms.Established, h.1.1, h.0))
   among_changed second old new (inr (inr (inr (inr (inr (inr (inr (inr (inr (inr (inr (inr (inr (inr (inr (inr (inr x))))))))))))))))) = absurd x
 
-  among : (shown : ShownRecord) → Some_in (IsOf shown) (all_items p) → IsAmong config link p shown
+  pub among : (shown : ShownRecord) → Some_in (IsOf shown) (all_items p) → IsAmong config link p shown
   among (Received second o) h = among_received second o h
   among (Sent second o) h = among_sent second o h
   among (Changed second old new) h = among_changed second old new h

@@ -11,6 +11,7 @@ pub mod Asked
 pub mod Notes
 pub mod NoteLines
 pub mod Lacks
+pub mod OtherOrders
 pub mod Possible
 pub mod Endpoint
 pub mod Deed

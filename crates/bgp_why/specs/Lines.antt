@@ -1,6 +1,6 @@
 -- What the lines of a reason say: which records are of an item, and that they tell all that may
 -- follow.
-use Rattle.std.specs.Prelude.{◌≡◌, ◌≤◌, ◌<◌, ◌^◌, ◌↔◌, ℕ, List, Option, IfSome}
+use Rattle.std.specs.Prelude.{◌≡◌, ◌≤◌, ◌<◌, ◌^◌, ◌↔◌, ◌⊎◌, ℕ, List, Option, IfSome}
 use Rattle.bgp_prefix.specs.Shown.{ShownRecord, Received, Sent, Changed}
 use Rattle.bgp_wire.specs.Framing.{IsFrame}
 use Rattle.bgp_wire.specs.Message.{IsMessage}
@@ -16,11 +16,13 @@ use Rattle.bgp_machine.specs.Want.{Tells, limit_on}
 use Rattle.bgp_reason.specs.declared.kinds.Possible.{Possible}
 use Rattle.bgp_reason.specs.Asked.{AreAsked}
 use Rattle.bgp_reason.specs.Following.{MayFollow}
-use Rattle.bgp_reason.specs.Possible.{ArePossible, HasFsmError, IsCapturable, IsCleanOn}
+use Rattle.bgp_reason.specs.Possible.{ArePossible, HasFsmError, IsAmong, IsCapturable}
+use Rattle.bgp_reason.specs.Possible.{IsCleanOn}
 use Rattle.bgp_reason.specs.Sending.{sending_link}
 use Rattle.bgp_why.specs.declared.items.Item.{Item}
 use Rattle.bgp_why.specs.declared.items.Item.TheVariants as items
 use Rattle.bgp_why.specs.Items.{all_items, those_possible}
+use Rattle.bgp_why.specs.OtherOrders.{besides}
 
 -- a message that is sent at this second, on this link, is what an item says
 abbrev pub SaysItem : Config → Option Link → ℕ → List ℕ → Item → Type 0
@@ -77,3 +79,23 @@ LinesTellAll =
     → ArePossible config records possible → AreAsked config records possible
     → IfSome possible.hold_timer_expired (λ from. from < 2 ^ 32)
     → TellAll config records possible
+
+-- ---- other orders
+
+-- Of the messages that the others say could be sent, at a second from which Hold Timer Expired is so
+-- if they have it: each is of an item that is told already, or of one of a line of other orders; and
+-- each of such a line is one of them.
+pub record TellTheRest (config : Config) (link : Option Link) (told others : Possible) : Type 0
+  where
+    pub all : (second : ℕ) (octets : List ℕ) → IsAmong config link others (Sent second octets)
+        → Has (IsOfItem config link (Sent second octets)) (items_told told)
+        ⊎ Has (IsOfItem config link (Sent second octets)) (items_told (besides told others))
+    pub only : (second : ℕ) (octets : List ℕ)
+        → IfSome others.hold_timer_expired (λ from. from ≤ second)
+        → Has (IsOfItem config link (Sent second octets)) (items_told (besides told others))
+        → IsAmong config link others (Sent second octets)
+
+abbrev pub OthersTellTheRest : Type 0
+OthersTellTheRest =
+    (config : Config) (link : Option Link) (told others : Possible)
+    → TellTheRest config link told others

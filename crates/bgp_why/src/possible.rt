@@ -10,6 +10,7 @@ ghost use Rattle.bgp_why.specs.Possible.{states_without};
 
 use crate::items::{ITEMS, Item, items_of, put_item};
 use crate::lacks::{Lacks, put_but};
+use crate::other_lines::put_other_orders;
 use crate::style::Style;
 use bgp_machine::Fsm;
 use bgp_reason::{Possible, States};
@@ -84,7 +85,7 @@ fn first_word(message: bool, is_next: bool) -> &'static [u8]
 }
 
 /// Puts the line of an item after these words.
-fn put_item_line<W: Sink, A: Allocator>(
+pub(crate) fn put_item_line<W: Sink, A: Allocator>(
     lines: &mut Lines<'_, W>,
     style: &Style,
     word: &'static [u8],
@@ -142,8 +143,9 @@ fn put_lines<W: Sink, A: Allocator>(
 
 /// Puts what may stand in the impossible record's place, an item a line: `could come here: ITEM`
 /// or, where something is due, `had to come here: ITEM`, and then `or: ITEM` each. Behind the item
-/// that the record resembles stands what it lacks of it: `; this one: PART; PART`. Nothing is put
-/// where nothing may follow.
+/// that the record resembles stands what it lacks of it: `; this one: PART; PART`. Then what could
+/// have been sent in other orders, as the style says, if no line has it: `or: in another order,
+/// ITEM` each. Nothing is put where nothing may follow.
 pub fn put_possible_but<W: Sink, A: Allocator>(
     lines: &mut Lines<'_, W>,
     style: &Style,
@@ -153,6 +155,7 @@ pub fn put_possible_but<W: Sink, A: Allocator>(
     ensures { Writes lines.old lines.new (possible_but_lines style.now possible.now lacks.now) }
 {
     put_lines(lines, style, false, possible, lacks);
+    put_other_orders(lines, style, possible);
 }
 
 /// Puts what may follow all records: the same lines with `next` in place of `here`, and without

@@ -3,6 +3,7 @@
 ghost use Rattle.std.specs.Prelude.{◌≡◌};
 ghost use Rattle.bgp_why.specs.Style.{plain};
 
+use crate::other_orders::OtherOrders;
 use bgp_prefix::Seconds;
 use bgp_why_parts::OwnFaults;
 
@@ -20,10 +21,14 @@ pub struct Style {
     /// What the OPEN that was sent says that no configuration has: it stands in place of what that
     /// OPEN lacks of the configuration's own.
     pub own_faults: Option<OwnFaults>,
+    /// What could have been sent in the impossible record's place in other orders of a recording's
+    /// messages: what no other line has stands in lines of its own.
+    pub other_orders: OtherOrders,
 }
 
 impl Style {
     /// Returns the style of `bgp judge --explain`, which takes each number from the configuration.
+    /// Nothing is said of other orders.
     pub fn plain(first: Seconds, is_recording: bool) -> Style
         ensures { result ≡ plain first is_recording }
     {
@@ -32,6 +37,7 @@ impl Style {
             is_recording,
             peer_as_is_free: false,
             own_faults: None,
+            other_orders: OtherOrders::Unasked,
         }
     }
 }

@@ -1,22 +1,27 @@
 -- A line of words that is `judge` with a configuration and a file.
-use Rattle.std.proofs.Common.{rules, ◌≡◌, ◌∙◌, List, [], Some, arith, refl, sym, ap, subst, inl, inr, codes, true, false}
+use Rattle.std.proofs.Common.{rules, ◌≡◌, ◌∙◌, Bool, List, [], Some, arith, refl, sym, ap, ap₂, subst, inl, inr, codes, true, false}
 use Rattle.std.specs.Prelude.{slice_get, unwrap_or}
 use Rattle.std.proofs.lemmas.Option.{same_Some}
 use Rattle.clap.specs.Words.{Row, Text, fault_of, first_of, subcommand_of}
 use Rattle.bgp_open.specs.declared.config.Config.{Config}
 use Rattle.bgp_open.specs.declared.config.ConfigParts.{ConfigParts}
 use Rattle.bgp_open.specs.declared.families.Families.{Families}
-use Rattle.bgp_words.specs.Judge.{IsJudge, IsJudgeLine, IsJudgeOf}
+use Rattle.bgp_words.specs.Judge.{IsJudge, IsJudgeLine, IsJudgeOf, reporting_told}
 use Rattle.bgp_words.specs.Recording.{AreRecordingOptions, usual_recording}
 use Rattle.bgp_import.specs.declared.options.RecordingOptions.{RecordingOptions}
 use Rattle.bgp_words.specs.Spelled.{IsUsed, Names, NamesBy, NamesJudge}
 use Rattle.bgp_words.specs.Values.{IsFamiliesText, IsHoldText, IsPortText, IsPositiveText, IsSecondsText, is_given}
 use Rattle.bgp_words.specs.Words.{program_words}
+use Rattle.bgp_words.specs.declared.judge.Reporting.{Reporting}
 use Rattle.bgp_words.specs.declared.words.Command.{Command}
 use Rattle.bgp_words.specs.declared.words.Command.TheVariants.{Decode, Capture, Judge, Import, List as Listing, Check, Speak, Pair}
 use Rattle.bgp_words.proofs.NamedCommand.{two_names}
 use Rattle.bgp_words.proofs.PlainWords.{plain}
-use Rattle.bgp_words.proofs.SpelledJudge.{AreJudged, faultless, file_found, found_rows, named_judge, parts_found, parts_told, unexplained, usual_found, usual_told}
+use Rattle.bgp_words.proofs.SpelledJudge.{AreJudged, faultless, file_found, found_rows, in_text, named_judge, parts_found, parts_told, unexplained, usual_found, usual_told}
+
+-- what is reported
+abbrev pub told : Bool → Bool → Reporting
+told explain json = record { explain = explain; json = json }
 
 -- the values of what isn't told
 ninety : IsHoldText (codes "90") 90
@@ -99,6 +104,14 @@ module _ (words : List Text) (parts : ConfigParts) (file : Text) (line : IsJudge
       (plain line.local_as line.no_flags.0) (plain line.peer_as line.no_flags.1) (plain line.local_id line.no_flags.2)
       (plain line.local line.no_flags.3) (plain line.peer line.no_flags.4) (plain file line.no_flags.5)
 
+  no_json : is_given (codes "json") rows ≡ false
+  no_json = in_text line.name line.local_as line.peer_as line.local_id line.local line.peer file
+      (plain line.local_as line.no_flags.0) (plain line.peer_as line.no_flags.1) (plain line.local_id line.no_flags.2)
+      (plain line.local line.no_flags.3) (plain line.peer line.no_flags.4) (plain file line.no_flags.5)
+
+  nothing_told : reporting_told rows ≡ record { explain = false; json = false }
+  nothing_told = ap₂ (λ (e j : Bool). told e j) no_reason no_json
+
   of_judging : (command : Command) → NamesBy (codes "judge") rows command → IsJudgeOf words command
   of_judging (Decode form extended f) is = two_names (codes "judge") (codes "decode") (λ e. omega (arith, e)) is.0
   of_judging (Capture form session recording f) is = two_names (codes "judge") (codes "decode") (λ e. omega (arith, e)) is.0
@@ -107,7 +120,7 @@ module _ (words : List Text) (parts : ConfigParts) (file : Text) (line : IsJudge
   of_judging (Check checking f) is = two_names (codes "judge") (codes "check") (λ e. omega (arith, e)) is.0
   of_judging (Speak config speaking f) is = two_names (codes "judge") (codes "speak") (λ e. omega (arith, e)) is.0
   of_judging (Pair f) is = two_names (codes "judge") (codes "pair") (λ e. omega (arith, e)) is.0
-  of_judging (Judge config recording explain f) is =
+  of_judging (Judge config recording reporting f) is =
       let tells = parts_told line.name line.local_as line.peer_as line.local_id line.local line.peer file
       (plain line.local_as line.no_flags.0) (plain line.peer_as line.no_flags.1) (plain line.local_id line.no_flags.2)
       (plain line.local line.no_flags.3) (plain line.peer line.no_flags.4) (plain file line.no_flags.5) config.parts is.1.0 in (
@@ -131,7 +144,7 @@ module _ (words : List Text) (parts : ConfigParts) (file : Text) (line : IsJudge
           offers = tells.12;
         }),
         is_usual recording is.1.1,
-        is.1.2 ∙ no_reason,
+        is.1.2 ∙ nothing_told,
       )
 
   pub judge_of_line : (command : Command) → Names (subcommand_of program_words words) command → IsJudgeOf words command
@@ -139,7 +152,7 @@ module _ (words : List Text) (parts : ConfigParts) (file : Text) (line : IsJudge
 
 -- such a line of a configuration names it
 pub names_judge : (words : List Text) (config : Config) (file : Text) → IsJudgeLine words config.parts file
-    → NamesJudge config usual_recording false file (subcommand_of program_words words)
+    → NamesJudge config usual_recording (told false false) file (subcommand_of program_words words)
 names_judge words config file line =
-    subst (IsUsed (codes "judge") (IsJudge config usual_recording false file)) (sym (used words config.parts file line))
-    (refl, (are_parts words config.parts file line, usual words config.parts file line, sym (no_reason words config.parts file line), there words config.parts file line))
+    subst (IsUsed (codes "judge") (IsJudge config usual_recording (told false false) file)) (sym (used words config.parts file line))
+    (refl, (are_parts words config.parts file line, usual words config.parts file line, sym (nothing_told words config.parts file line), there words config.parts file line))

@@ -17,6 +17,7 @@ use Rattle.bgp_json.specs.declared.output_form.OutputForm.TheVariants.{Text as A
 use Rattle.bgp_lines.specs.declared.form.LineForm.TheVariants.{Plain, Names as InWords}
 use Rattle.bgp_open.specs.declared.config.Config.{Config}
 use Rattle.bgp_words.specs.Spelled.{Names, NamesBy, NamesDecode}
+use Rattle.bgp_words.specs.declared.judge.Reporting.{Reporting}
 use Rattle.bgp_words.specs.declared.words.Command.{Command}
 use Rattle.bgp_words.specs.declared.words.Command.TheVariants.{Decode, Capture, Judge, Import, List as Listing, Check, Speak, Pair}
 
@@ -44,7 +45,7 @@ of_decode rows file (Capture form session recording name) is also =
     let (_file, not_mrt, _peer, _local, _all, _plain, _form) = is in
     let (_file, mrt, _peer, _local, _refresh, _long, _recording, _form) = also.1 in
     let bad : false ≡ true = sym not_mrt ∙ mrt in absurd (cc)
-of_decode rows file (Judge config recording explain name) is also = absurd (two_names (codes "decode") (codes "judge") (λ e. omega (arith, e)) also.0)
+of_decode rows file (Judge config recording reporting name) is also = absurd (two_names (codes "decode") (codes "judge") (λ e. omega (arith, e)) also.0)
 of_decode rows file (Import session recording name out) is also = absurd (two_names (codes "decode") (codes "import") (λ e. omega (arith, e)) also.0)
 of_decode rows file (Listing port json name) is also = absurd (two_names (codes "decode") (codes "list") (λ e. omega (arith, e)) also.0)
 of_decode rows file (Check checking name) is also = absurd (two_names (codes "decode") (codes "check") (λ e. omega (arith, e)) also.0)
@@ -63,7 +64,7 @@ pub none_decoded : (rows : List Row) → ((form : OutputForm) (extended : Bool) 
     → (command : Command) → NamesBy (codes "decode") rows command → ⊥
 none_decoded rows stream capture (Decode form extended file) is = stream form extended file.now is.1
 none_decoded rows stream capture (Capture form session recording file) is = capture form session recording file.now is.1
-none_decoded rows stream capture (Judge config recording explain file) is = two_names (codes "decode") (codes "judge") (λ e. omega (arith, e)) is.0
+none_decoded rows stream capture (Judge config recording reporting file) is = two_names (codes "decode") (codes "judge") (λ e. omega (arith, e)) is.0
 none_decoded rows stream capture (Import session recording file out) is = two_names (codes "decode") (codes "import") (λ e. omega (arith, e)) is.0
 none_decoded rows stream capture (Listing port json file) is = two_names (codes "decode") (codes "list") (λ e. omega (arith, e)) is.0
 none_decoded rows stream capture (Check checking file) is = two_names (codes "decode") (codes "check") (λ e. omega (arith, e)) is.0
@@ -71,11 +72,11 @@ none_decoded rows stream capture (Speak config speaking file) is = two_names (co
 none_decoded rows stream capture (Pair file) is = two_names (codes "decode") (codes "pair") (λ e. omega (arith, e)) is.0
 
 -- the same of `judge`
-pub none_judged : (rows : List Row) → ((config : Config) (recording : RecordingOptions) (explain : Bool) (file : Text) → IsJudge config recording explain file rows → ⊥)
+pub none_judged : (rows : List Row) → ((config : Config) (recording : RecordingOptions) (reporting : Reporting) (file : Text) → IsJudge config recording reporting file rows → ⊥)
     → (command : Command) → NamesBy (codes "judge") rows command → ⊥
 none_judged rows none (Decode form extended file) is = two_names (codes "judge") (codes "decode") (λ e. omega (arith, e)) is.0
 none_judged rows none (Capture form session recording file) is = two_names (codes "judge") (codes "decode") (λ e. omega (arith, e)) is.0
-none_judged rows none (Judge config recording explain file) is = none config recording explain file.now is.1
+none_judged rows none (Judge config recording reporting file) is = none config recording reporting file.now is.1
 none_judged rows none (Import session recording file out) is = two_names (codes "judge") (codes "import") (λ e. omega (arith, e)) is.0
 none_judged rows none (Listing port json file) is = two_names (codes "judge") (codes "list") (λ e. omega (arith, e)) is.0
 none_judged rows none (Check checking file) is = two_names (codes "judge") (codes "check") (λ e. omega (arith, e)) is.0
@@ -87,7 +88,7 @@ pub none_spoken : (rows : List Row) → ((config : Config) (speaking : Speaking)
     → (command : Command) → NamesBy (codes "speak") rows command → ⊥
 none_spoken rows none (Decode form extended file) is = two_names (codes "speak") (codes "decode") (λ e. omega (arith, e)) is.0
 none_spoken rows none (Capture form session recording file) is = two_names (codes "speak") (codes "decode") (λ e. omega (arith, e)) is.0
-none_spoken rows none (Judge config recording explain file) is = two_names (codes "speak") (codes "judge") (λ e. omega (arith, e)) is.0
+none_spoken rows none (Judge config recording reporting file) is = two_names (codes "speak") (codes "judge") (λ e. omega (arith, e)) is.0
 none_spoken rows none (Import session recording file out) is = two_names (codes "speak") (codes "import") (λ e. omega (arith, e)) is.0
 none_spoken rows none (Listing port json file) is = two_names (codes "speak") (codes "list") (λ e. omega (arith, e)) is.0
 none_spoken rows none (Check checking file) is = two_names (codes "speak") (codes "check") (λ e. omega (arith, e)) is.0
@@ -99,7 +100,7 @@ pub none_imported : (rows : List Row) → ((session : Session) (recording : Reco
     → (command : Command) → NamesBy (codes "import") rows command → ⊥
 none_imported rows none (Decode form extended file) is = two_names (codes "import") (codes "decode") (λ e. omega (arith, e)) is.0
 none_imported rows none (Capture form session recording file) is = two_names (codes "import") (codes "decode") (λ e. omega (arith, e)) is.0
-none_imported rows none (Judge config recording explain file) is = two_names (codes "import") (codes "judge") (λ e. omega (arith, e)) is.0
+none_imported rows none (Judge config recording reporting file) is = two_names (codes "import") (codes "judge") (λ e. omega (arith, e)) is.0
 none_imported rows none (Import session recording file out) is = none session recording file.now out.now is.1
 none_imported rows none (Listing port json file) is = two_names (codes "import") (codes "list") (λ e. omega (arith, e)) is.0
 none_imported rows none (Check checking file) is = two_names (codes "import") (codes "check") (λ e. omega (arith, e)) is.0
@@ -111,7 +112,7 @@ pub none_listed : (rows : List Row) → ((port : ℕ) (json : Bool) (file : Text
     → (command : Command) → NamesBy (codes "list") rows command → ⊥
 none_listed rows none (Decode form extended file) is = two_names (codes "list") (codes "decode") (λ e. omega (arith, e)) is.0
 none_listed rows none (Capture form session recording file) is = two_names (codes "list") (codes "decode") (λ e. omega (arith, e)) is.0
-none_listed rows none (Judge config recording explain file) is = two_names (codes "list") (codes "judge") (λ e. omega (arith, e)) is.0
+none_listed rows none (Judge config recording reporting file) is = two_names (codes "list") (codes "judge") (λ e. omega (arith, e)) is.0
 none_listed rows none (Import session recording file out) is = two_names (codes "list") (codes "import") (λ e. omega (arith, e)) is.0
 none_listed rows none (Listing port json file) is = none port json file.now is.1
 none_listed rows none (Check checking file) is = two_names (codes "list") (codes "check") (λ e. omega (arith, e)) is.0
@@ -123,7 +124,7 @@ pub none_checked : (rows : List Row) → ((checking : Checking) (file : Text) �
     → (command : Command) → NamesBy (codes "check") rows command → ⊥
 none_checked rows none (Decode form extended file) is = two_names (codes "check") (codes "decode") (λ e. omega (arith, e)) is.0
 none_checked rows none (Capture form session recording file) is = two_names (codes "check") (codes "decode") (λ e. omega (arith, e)) is.0
-none_checked rows none (Judge config recording explain file) is = two_names (codes "check") (codes "judge") (λ e. omega (arith, e)) is.0
+none_checked rows none (Judge config recording reporting file) is = two_names (codes "check") (codes "judge") (λ e. omega (arith, e)) is.0
 none_checked rows none (Import session recording file out) is = two_names (codes "check") (codes "import") (λ e. omega (arith, e)) is.0
 none_checked rows none (Listing port json file) is = two_names (codes "check") (codes "list") (λ e. omega (arith, e)) is.0
 none_checked rows none (Check checking file) is = none checking file.now is.1
@@ -146,7 +147,7 @@ few_turns (Some word) turns is = is.1
 can_by : (p : Text × List Row) (command : Command) → Names (Some p) command → CanSpeak command
 can_by p (Decode form extended file) is = tt
 can_by p (Capture form session recording file) is = tt
-can_by p (Judge config recording explain file) is = tt
+can_by p (Judge config recording reporting file) is = tt
 can_by p (Import session recording file out) is = tt
 can_by p (Listing port json file) is = tt
 can_by p (Check checking file) is = tt
@@ -161,7 +162,7 @@ can_speak (Some p) command is = can_by p command is
 can_import_by : (p : Text × List Row) (command : Command) → Names (Some p) command → CanImport command
 can_import_by p (Decode form extended file) is = tt
 can_import_by p (Capture form session recording file) is = tt
-can_import_by p (Judge config recording explain file) is = tt
+can_import_by p (Judge config recording reporting file) is = tt
 can_import_by p (Import session recording file out) is = (is.1.1, is.1.3)
 can_import_by p (Listing port json file) is = tt
 can_import_by p (Check checking file) is = tt

@@ -197,10 +197,14 @@ module _ (name local_as peer_as local_id local peer file : Text) (local_as_plain
   unfolding clap_on_literals
   file_found = refl
 
-  -- no reason is wanted
+  -- neither the reason nor JSON is wanted
   pub unexplained : is_given (codes "explain") found_rows ≡ false
   unfolding clap_on_literals
   unexplained = refl
+
+  pub in_text : is_given (codes "json") found_rows ≡ false
+  unfolding clap_on_literals
+  in_text = refl
 
   -- what isn't told of a recording
   pub usual_found : IsPortText (codes "179") 179 → IsSecondsText (codes "10") 10 → AreRecordingOptions usual_recording found_rows

@@ -66,7 +66,7 @@ abbrev pub IsDecodeOf : Text → Command → Type 0
 IsDecodeOf text (Decode form extended file) =
     (form ≡ AsText Plain) × (extended ≡ false) × (file.now ≡ text)
 IsDecodeOf text (Capture form session recording file) = ⊥
-IsDecodeOf text (Judge config recording explain file) = ⊥
+IsDecodeOf text (Judge config recording reporting file) = ⊥
 IsDecodeOf text (Import session recording file out) = ⊥
 IsDecodeOf text (Listing port json file) = ⊥
 IsDecodeOf text (Check checking file) = ⊥

@@ -48,7 +48,7 @@ IsChecking checking file rows =
 abbrev pub CanImport : Command → Type 0
 CanImport (Decode form extended file) = Unit {0}
 CanImport (Capture form session recording file) = Unit {0}
-CanImport (Judge config recording explain file) = Unit {0}
+CanImport (Judge config recording reporting file) = Unit {0}
 CanImport (Import session recording file out) =
     IsOfOneFamily session × AreApart session recording.local_port
 CanImport (Listing port json file) = Unit {0}

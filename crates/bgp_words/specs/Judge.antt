@@ -1,6 +1,6 @@
 -- The values of `judge`: what the local system is configured to do, the session, what is told of a
--- recording, whether the reason is wanted, and a file.
-use Rattle.std.specs.Prelude.{◌≡◌, Bool, true, false, not, List, [], ◌∷◌, Some, codes}
+-- recording, what is reported, and a file.
+use Rattle.std.specs.Prelude.{◌≡◌, true, false, not, List, [], ◌∷◌, Some, codes}
 use Rattle.clap.specs.Words.{Row, Text, first_of}
 use Rattle.bgp_prefix.specs.Notation.{IsAddressText}
 use Rattle.bgp_prefix.specs.declared.session.RouteRefresh.TheVariants as refreshes
@@ -11,17 +11,25 @@ use Rattle.bgp_words.specs.Values.{IsPositiveText, IsIdentifierText, IsNoFlag, i
 use Rattle.bgp_words.specs.Settings.{AreParts}
 use Rattle.bgp_words.specs.Recording.{AreRecordingOptions, refresh_told, usual_recording}
 use Rattle.bgp_import.specs.declared.options.RecordingOptions.{RecordingOptions}
+use Rattle.bgp_words.specs.declared.judge.Reporting.{Reporting}
 use Rattle.bgp_words.specs.declared.words.Command.{Command}
 use Rattle.bgp_words.specs.declared.words.Command.TheVariants.{Decode, Capture, Judge}
 use Rattle.bgp_words.specs.declared.words.Command.TheVariants.{Check, Import, List as Listing}
 use Rattle.bgp_words.specs.declared.words.Command.TheVariants.{Speak, Pair}
 
--- the values of `judge`: a configuration, and a file; `--no-refresh`: the local system offers no
--- route refresh; `--skip-refresh`: its messages are passed over; `--explain`: the reason is wanted
-abbrev pub IsJudge : Config → RecordingOptions → Bool → Text → List Row → Type 0
-IsJudge config recording explain file rows =
+-- `--explain`: the reason is wanted; `--json`: each line is a JSON object
+abbrev pub reporting_told : List Row → Reporting
+reporting_told rows = record {
+  explain = is_given (codes "explain") rows;
+  json = is_given (codes "json") rows;
+}
+
+-- the values of `judge`: a configuration, what is reported, and a file; `--no-refresh`: the local
+-- system offers no route refresh; `--skip-refresh`: its messages are passed over
+abbrev pub IsJudge : Config → RecordingOptions → Reporting → Text → List Row → Type 0
+IsJudge config recording reporting file rows =
     AreParts config.parts (refresh_told (not (is_given (codes "no-refresh") rows)) rows) rows
-    × AreRecordingOptions recording rows × (explain ≡ is_given (codes "explain") rows)
+    × AreRecordingOptions recording rows × (reporting ≡ reporting_told rows)
     × (first_of (codes "FILE") rows ≡ Some file)
 
 -- The words are `judge FILE` with just the options that it has to have, in this order, behind the
@@ -48,14 +56,14 @@ pub record IsJudgeLine (words : List Text) (parts : ConfigParts) (file : Text) :
   pub flags : (parts.as4 ≡ true) × (parts.delay_open ≡ false)
   pub offers : parts.offers ≡ nothing
 
--- the command is `judge` with what these words tell; nothing is told of a recording, and no reason
--- is wanted
+-- the command is `judge` with what these words tell; nothing is told of a recording, and neither the
+-- reason nor JSON is wanted
 abbrev pub IsJudgeOf : List Text → Command → Type 0
 IsJudgeOf words (Decode form extended file) = ⊥
 IsJudgeOf words (Capture form session recording file) = ⊥
-IsJudgeOf words (Judge config recording explain file) =
+IsJudgeOf words (Judge config recording reporting file) =
     IsJudgeLine words config.parts file.now × (recording ≡ usual_recording)
-    × (explain ≡ false)
+    × (reporting ≡ record { explain = false; json = false })
 IsJudgeOf words (Import session recording file out) = ⊥
 IsJudgeOf words (Listing port json file) = ⊥
 IsJudgeOf words (Check checking file) = ⊥

@@ -44,7 +44,7 @@ IsSpeak config speaking file rows =
 abbrev pub CanSpeak : Command → Type 0
 CanSpeak (Decode form extended file) = Unit {0}
 CanSpeak (Capture form session recording file) = Unit {0}
-CanSpeak (Judge config recording explain file) = Unit {0}
+CanSpeak (Judge config recording reporting file) = Unit {0}
 CanSpeak (Import session recording file out) = Unit {0}
 CanSpeak (Listing port json file) = Unit {0}
 CanSpeak (Check checking file) = Unit {0}

@@ -22,6 +22,7 @@ use Rattle.bgp_import.specs.declared.options.RecordingOptions.{RecordingOptions}
 use Rattle.bgp_words.specs.declared.words.Command.{Command}
 use Rattle.bgp_words.specs.declared.words.Command.TheVariants.{Decode, Capture, Judge}
 use Rattle.bgp_words.specs.declared.words.Command.TheVariants.{Check, Import, List as Listing}
+use Rattle.bgp_words.specs.declared.judge.Reporting.{Reporting}
 use Rattle.bgp_words.specs.declared.words.Command.TheVariants.{Speak, Pair}
 
 -- a command was named, and its values are such
@@ -33,7 +34,7 @@ IsUsed name values (Some used) = (used.0 ≡ name) × values used.1
 abbrev pub name_of : Command → Text
 name_of (Decode form extended file) = codes "decode"
 name_of (Capture form session recording file) = codes "decode"
-name_of (Judge config recording explain file) = codes "judge"
+name_of (Judge config recording reporting file) = codes "judge"
 name_of (Import session recording file out) = codes "import"
 name_of (Listing port json file) = codes "list"
 name_of (Check checking file) = codes "check"
@@ -44,7 +45,7 @@ name_of (Pair file) = codes "pair"
 abbrev pub AreValuesOf : Command → List Row → Type 0
 AreValuesOf (Decode form extended file) = IsStream form extended file.now
 AreValuesOf (Capture form session recording file) = IsCapture form session recording file.now
-AreValuesOf (Judge config recording explain file) = IsJudge config recording explain file.now
+AreValuesOf (Judge config recording reporting file) = IsJudge config recording reporting file.now
 AreValuesOf (Import session recording file out) = IsImport session recording file.now out.now
 AreValuesOf (Listing port json file) = IsListing port json file.now
 AreValuesOf (Check checking file) =
@@ -65,11 +66,11 @@ NamesBy name rows = Names (Some (name, rows))
 abbrev pub NamesDecode : OutputForm → Bool → Text → Option (Text × List Row) → Type 0
 NamesDecode form extended file = IsUsed (codes "decode") (IsStream form extended file)
 
--- `judge` was named, with this configuration, what is told of a recording, the wish for the reason
--- or none, and this file
-abbrev pub NamesJudge : Config → RecordingOptions → Bool → Text → Option (Text × List Row) → Type 0
-NamesJudge config recording explain file =
-    IsUsed (codes "judge") (IsJudge config recording explain file)
+-- `judge` was named, with this configuration, what is told of a recording, what is reported, and this
+-- file
+abbrev pub NamesJudge : Config → RecordingOptions → Reporting → Text → Option (Text × List Row) → Type 0
+NamesJudge config recording reporting file =
+    IsUsed (codes "judge") (IsJudge config recording reporting file)
 
 -- the words spell the command: nothing is wrong with them, and they name it
 abbrev pub Spells : List Text → Command → Type 0

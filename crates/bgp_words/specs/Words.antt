@@ -74,11 +74,11 @@ abbrev pub with_settings : App → App
 with_settings command = with_choices (with_needs command)
 
 -- `judge FILE` with the options that tell of the session, `--offers`, those of one that is read, and
--- `--explain` or without
+-- `--explain` and `--json` or without
 abbrev pub judge_words : App
 judge_words =
-    with_rule (with_recording (with_rule (with_settings (with_file (codes "judge")))
-    (option_word (codes "offers")))) (flag_word (codes "explain"))
+    with_rule (with_rule (with_recording (with_rule (with_settings (with_file (codes "judge")))
+    (option_word (codes "offers")))) (flag_word (codes "explain"))) (flag_word (codes "json"))
 
 -- `import --local A --peer A FILE OUT`, with `--extended` or without, and with the options of a
 -- session that is read

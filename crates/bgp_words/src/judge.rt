@@ -1,12 +1,13 @@
 //! The words of `judge`.
 
-ghost use Rattle.std.specs.Prelude.{◌≡◌, ℕ, Bool, List, IfOk, IsErr, false, codes};
+ghost use Rattle.std.specs.Prelude.{◌≡◌, ℕ, List, IfOk, IsErr, false, codes};
 ghost use Rattle.clap.specs.Words.{app_of, found_of, rows_of};
 ghost use Rattle.clap.specs.declared.builder.command.Command.TheViews.{out-Command as fields_of};
 ghost use Rattle.bgp_open.specs.declared.config.Config.{Config as Configured};
 ghost use Rattle.bgp_words.specs.Words.{judge_words};
 ghost use Rattle.bgp_words.specs.Judge.{IsJudge};
 ghost use Rattle.bgp_words.specs.Spelled.{NamesBy};
+ghost use Rattle.bgp_words.specs.declared.judge.Reporting.{Reporting as Reported};
 ghost use Rattle.bgp_import.specs.declared.options.RecordingOptions.{RecordingOptions as Told};
 
 use crate::misfit::Misfit;
@@ -52,6 +53,9 @@ OPENs settle something of it.
 
 With --explain the reason follows a no and an unfinished, in lines of its own: the record, the state
 before it, the message received last, and every record that could have stood there, and no other.
+
+judge --json prints the same as JSON objects, one a line: of a verdict, of an end, of a route, of a
+line of the reason, or of what is refused.
 
 With --skip-refresh a ROUTE-REFRESH that is whole is no record; standard error says how many were
 passed over.
@@ -113,6 +117,18 @@ const EXPLAIN: Word<'static> = Word::Flag(
     "Says why it is a no or unfinished, in lines of their own",
 );
 
+/// The flag that asks for JSON.
+const JSON: Word<'static> = Word::Flag("json", "Prints each line as a JSON object");
+
+/// What is reported on a session that is judged.
+#[derive(Clone, Copy, Debug, PartialEq, Eq)]
+pub struct Reporting {
+    /// Whether the reason of the verdict is wanted too.
+    pub explain: bool,
+    /// Whether each line is a JSON object.
+    pub json: bool,
+}
+
 /// What the words of `judge` may be.
 pub(crate) fn judge_words<'a>(alloc: Global) -> Result<clap::Command<'a>, AllocError>
     ensures words { IfOk result (λ judge. app_of judge ≡ judge_words) }
@@ -129,25 +145,27 @@ pub(crate) fn judge_words<'a>(alloc: Global) -> Result<clap::Command<'a>, AllocE
     let judge = with_settings(alloc, judge)?;
     let judge = with_word(alloc, judge, OFFERS)?;
     let judge = with_recording(alloc, judge)?;
-    with_word(alloc, judge, EXPLAIN)
+    let judge = with_word(alloc, judge, EXPLAIN)?;
+    with_word(alloc, judge, JSON)
 }
 
 /// The command that the values of `judge` are.
 pub(crate) fn judge_of<'a>(judge: &ArgMatches<'a>) -> Result<Command<'a>, Misfit<'a>>
     ensures ok { IfOk result (NamesBy (codes "judge") (rows_of (found_of judge.now))) }
     ensures err { IsErr result →
-        (config : Configured) (recording : Told) (explain : Bool) (file : List ℕ) →
-        IsJudge config recording explain file (rows_of (found_of judge.now)) → ⊥ }
+        (config : Configured) (recording : Told) (reporting : Reported) (file : List ℕ) →
+        IsJudge config recording reporting file (rows_of (found_of judge.now)) → ⊥ }
 {
     let refresh = refresh_of(judge, !has_flag(judge, "no-refresh"));
     let config = config_of(judge, refresh)?;
     let recording = recording_of(judge)?;
     let explain = has_flag(judge, "explain");
+    let json = has_flag(judge, "json");
     let file = value_of(judge, "FILE")?;
     Ok(Command::Judge {
         config,
         recording,
-        explain,
+        reporting: Reporting { explain, json },
         file,
     })
 }

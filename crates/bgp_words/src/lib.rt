@@ -25,4 +25,5 @@ mod values;
 mod words;
 
 pub use check::Checking;
+pub use judge::Reporting;
 pub use words::{Command, command_line};

@@ -8,6 +8,7 @@ ghost use Rattle.clap.specs.declared.builder.command.Command.TheViews.{out-Comma
 ghost use Rattle.clap.specs.Words.{FailsBy, HasMatchesOf, fault_of, is_simple_and_free};
 ghost use Rattle.bgp_json.specs.declared.output_form.OutputForm.{OutputForm as Form};
 ghost use Rattle.bgp_open.specs.declared.config.Config.{Config as Configured};
+ghost use Rattle.bgp_words.specs.declared.judge.Reporting.{Reporting as Reported};
 ghost use Rattle.bgp_words.specs.Words.{program_words, with_readers, with_speakers};
 ghost use Rattle.bgp_words.specs.Decode.{IsDecode};
 ghost use Rattle.bgp_words.specs.Judge.{IsJudgeLine};
@@ -21,7 +22,7 @@ ghost use Rattle.bgp_import.specs.declared.options.RecordingOptions.{RecordingOp
 use crate::check::{Checking, check_of, check_words};
 use crate::decode::{decode_of, decode_words};
 use crate::import::{import_of, import_words};
-use crate::judge::{judge_of, judge_words};
+use crate::judge::{Reporting, judge_of, judge_words};
 use crate::list::{list_of, list_words};
 use crate::misfit::Misfit;
 use crate::options::new_command;
@@ -69,8 +70,8 @@ pub enum Command<'a> {
         config: Config,
         /// What is told of the recording, if the file is one.
         recording: RecordingOptions,
-        /// Whether the reason of the verdict is wanted too.
-        explain: bool,
+        /// Whether the reason of the verdict is wanted too, and in which form.
+        reporting: Reporting,
         /// The file's path, or `-` for standard input.
         file: &'a str,
     },
@@ -254,8 +255,8 @@ fn named<'a>(matches: &ArgMatches<'a>) -> Result<Command<'a>, Misfit<'a>>
     ensures no_stream { IsErr result → (form : Form) (extended : Bool) (file : List ℕ) →
         NamesDecode form extended file (subcommand_rows_of matches.now) → ⊥ }
     ensures no_judge { IsErr result →
-        (config : Configured) (recording : Told) (explain : Bool) (file : List ℕ) →
-        NamesJudge config recording explain file (subcommand_rows_of matches.now) → ⊥ }
+        (config : Configured) (recording : Told) (reporting : Reported) (file : List ℕ) →
+        NamesJudge config recording reporting file (subcommand_rows_of matches.now) → ⊥ }
     ensures none { IsErr result → (command : Command) →
         Names (subcommand_rows_of matches.now) command → ⊥ }
 {

@@ -21,6 +21,7 @@ use bgp_tool::{
     Note, SessionOptions, StreamOptions, decode_opened, decode_opened_capture, passed_over,
 };
 use bgp_vectors::config_of;
+use bgp_verdict_lines::VerdictForm;
 use mrt::{FromWrite, SkippedRecords};
 use std::alloc::{AllocError, Global};
 use std::fmt::{Display, Write};
@@ -138,7 +139,15 @@ fn ended<'a, T: Tracker<Global>>(
             }
         }
         Command::Judge { config, report } => {
-            judge_opened::<Global, T, _, _>(alloc, config, *report, file, opened, &mut sink)
+            judge_opened::<Global, T, _, _>(
+                alloc,
+                config,
+                *report,
+                VerdictForm::Text,
+                file,
+                opened,
+                &mut sink,
+            )
         }
     };
     (judged, sink.into_inner().written)

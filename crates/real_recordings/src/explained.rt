@@ -6,7 +6,7 @@ use crate::file::File;
 use crate::words::{command_of, import_of, words_of};
 use bgp_import::{RecordingOptions, import_recording};
 use bgp_open::{Config, ConfigParts};
-use bgp_words::Command;
+use bgp_words::{Command, Reporting};
 use mrt::MemSink;
 use std::alloc::Global;
 use std::io;
@@ -112,7 +112,10 @@ fn compare_answers<R: Print + AllocGlobal>(
     let explain = Command::Judge {
         config: talk.config,
         recording: talk.options,
-        explain: true,
+        reporting: Reporting {
+            explain: true,
+            json: false,
+        },
         file: "-",
     };
     let known = answer_by_both(rt.alloc(), &explain, capture)?;

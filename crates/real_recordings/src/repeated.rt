@@ -5,7 +5,7 @@ use crate::case::malformed;
 use crate::file::File;
 use crate::words::{command_of, words_of};
 use bgp_compact::CompactTracker;
-use bgp_words::Command;
+use bgp_words::{Command, Reporting};
 use std::alloc::Global;
 use std::io;
 
@@ -26,7 +26,10 @@ fn judged(alloc: Global, file: &File<'_>, line: &str) -> io::Result<String> {
     let explain = Command::Judge {
         config,
         recording,
-        explain: true,
+        reporting: Reporting {
+            explain: true,
+            json: false,
+        },
         file: name,
     };
     answer_by::<CompactTracker<Global>>(alloc, &explain, file)

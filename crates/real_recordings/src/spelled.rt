@@ -7,7 +7,7 @@ use bgp_lines::LineForm;
 use bgp_open::{ConfigParts, Families, RouteOffer};
 use bgp_prefix::{Address, RouteRefresh, Session};
 use bgp_talk::{Speaking, Start};
-use bgp_words::{Checking, Command, command_line};
+use bgp_words::{Checking, Command, Reporting, command_line};
 use std::alloc::{AllocError, Global};
 use std::fmt::{Display, Write};
 use std::io;
@@ -97,9 +97,9 @@ fn put_command(text: &mut String, command: &Command<'_>) -> Result<(), AllocErro
         Command::Judge {
             config,
             recording,
-            explain,
+            reporting,
             file,
-        } => put_judge(text, &config.parts, recording, *explain, file),
+        } => put_judge(text, &config.parts, recording, *reporting, file),
         Command::Import {
             session,
             recording,
@@ -140,14 +140,15 @@ fn put_judge(
     text: &mut String,
     parts: &ConfigParts,
     recording: &RecordingOptions,
-    explain: bool,
+    reporting: Reporting,
     file: &str,
 ) -> Result<(), AllocError> {
     text.push_str("judge ")?;
     put_parts(text, parts)?;
     put_unusual(text, recording)?;
-    let explain = if explain { " explain" } else { "" };
-    write!(text, "{explain} file {file:?}")
+    let explain = if reporting.explain { " explain" } else { "" };
+    let json = if reporting.json { " json" } else { "" };
+    write!(text, "{explain}{json} file {file:?}")
 }
 
 /// Puts what `import` is told.

@@ -6,6 +6,7 @@ use bgp_json::OutputForm;
 use bgp_lines::LineForm;
 use bgp_recording_tool::{decode_file, judge_file};
 use bgp_tool::{Note, Ready, SessionOptions};
+use bgp_verdict_lines::VerdictForm;
 use mrt::FromWrite;
 use std::io::{self, ErrorKind, Read};
 
@@ -52,6 +53,7 @@ fn is_judged(
         alloc,
         &config,
         Report::VerdictAlone,
+        VerdictForm::Text,
         &OPTIONS,
         "a.pcap",
         Ok(given),

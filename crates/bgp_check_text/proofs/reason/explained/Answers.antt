@@ -12,7 +12,7 @@ returns g c = λ session verdict under holds are_faults.
     let records = map shown_of c.args.records.now in
     let deed = c.in_ok-said_of.field-0.deed.items in
     let lines = c.in_ok-said_of.field-0.lines.items in
-    let styled = c.style_of.ensures ∙ ap (λ (b : Bool). style_of asking.first b judged.peer_as c.args.own_faults) c.are_shown.ensures in
+    let styled = c.style_of.ensures ∙ ap (λ (b : Bool). style_of asking.first b judged.peer_as c.args.own_faults asking.instead) c.are_shown.ensures in
     let said = subst (λ (style : Style). IsSaid judged.under style asking.sent asking.peer c.another_of.result (places_of asking.places) records verdict deed lines)
     styled (c.in_ok-said_of.ensures verdict holds) in
     record {
@@ -20,7 +20,7 @@ returns g c = λ session verdict under holds are_faults.
       holds = holds;
       faults = c.args.own_faults;
       are_faults = are_faults;
-      is_said = subst (λ (another : Option ℕ). IsSaid judged.under (style_of asking.first (are_shown asking.places) judged.peer_as c.args.own_faults) asking.sent asking.peer another (places_of asking.places)
+      is_said = subst (λ (another : Option ℕ). IsSaid judged.under (style_of asking.first (are_shown asking.places) judged.peer_as c.args.own_faults asking.instead) asking.sent asking.peer another (places_of asking.places)
           records verdict deed lines)
           c.another_of.ensures said;
     }

@@ -28,9 +28,9 @@ returns g c =
     let lines = c.in_ok-reason.reason.lines.items in
     let same : map shown_of c.as_slice-records.result.now ≡ records_of entries = ap (map shown_of) c.as_slice-records.ensures.value ∙ c.requires.records in
     let raw = c.in_ok-reason.ensures session (subst (λ (rs : List ShownRecord). IsAnswerTo session rs answer) (sym same) c.requires.answers) in
-    let placed = subst (λ (es : List Entry). IsReasonTo session limit c.second_at-first.result true c.peer_end-peer.result (shown_places es) (map shown_of c.as_slice-records.result.now) answer deed lines)
+    let placed = subst (λ (es : List Entry). IsReasonTo session limit c.second_at-first.result true c.peer_end-peer.result (shown_places es) c.args.instead (map shown_of c.as_slice-records.result.now) answer deed lines)
     c.as_slice-entries.ensures.value raw in
-    let timed = subst (λ (n : ℕ). IsReasonTo session limit n true c.peer_end-peer.result (shown_places entries) (map shown_of c.as_slice-records.result.now) answer deed lines)
+    let timed = subst (λ (n : ℕ). IsReasonTo session limit n true c.peer_end-peer.result (shown_places entries) c.args.instead (map shown_of c.as_slice-records.result.now) answer deed lines)
     (c.second_at-first.ensures ∙ ap (λ (es : List Entry). second_at es 0) c.as_slice-entries.ensures.value) placed in
-    let to_peer = subst (λ (p : Endpoint). IsReasonTo session limit (second_at entries 0) true p (shown_places entries) (map shown_of c.as_slice-records.result.now) answer deed lines) c.peer_end-peer.ensures timed in
-    subst (λ (rs : List ShownRecord). IsReasonTo session limit (second_at entries 0) true (peer_end session c.args.viewed.now.connection) (shown_places entries) rs answer deed lines) same to_peer
+    let to_peer = subst (λ (p : Endpoint). IsReasonTo session limit (second_at entries 0) true p (shown_places entries) c.args.instead (map shown_of c.as_slice-records.result.now) answer deed lines) c.peer_end-peer.ensures timed in
+    subst (λ (rs : List ShownRecord). IsReasonTo session limit (second_at entries 0) true (peer_end session c.args.viewed.now.connection) (shown_places entries) c.args.instead rs answer deed lines) same to_peer

@@ -14,11 +14,13 @@ use Rattle.bgp_check_tool.specs.declared.late.Late.{Late}
 use Rattle.bgp_check_tool.specs.declared.orders.NoOrder.{NoOrder}
 use Rattle.bgp_check_tool.specs.Another.{IsYes, number_in}
 use Rattle.bgp_check_tool.specs.Elsewhere.{IsOther, no_place}
+use Rattle.bgp_check_tool.specs.Instead.{AreInstead}
 use Rattle.bgp_check_tool.specs.Judging.{AreOptionsTo}
 use Rattle.bgp_check_tool.specs.Late.{IsLate}
 use Rattle.bgp_check_tool.specs.Place.{second_at}
 use Rattle.bgp_check_tool.specs.Told.{peer_end, place_of, told_value}
-use Rattle.bgp_check_tool.proofs.TellingEnd.{made_so, message_found, nothing_found, nothing_other, other_so, reached_so, reason_so, told_so, yes_not_late}
+use Rattle.bgp_why.specs.declared.other_orders.OtherOrders.TheVariants.{Unasked}
+use Rattle.bgp_check_tool.proofs.TellingEnd.{made_so, message_found, nothing_found, nothing_instead, nothing_other, other_so, reached_so, reason_so, told_so, yes_not_late}
 use Rattle.bgp_check_tool.proofs.ending.told_by.Goals as goal
 
 pub returns-in-Nothing : goal.returns-in-Nothing
@@ -51,7 +53,9 @@ returns-in-Nothing g c = λ clocked made.
     (other_so viewed.session framings.sent.limit peer records told.found _ told.in_made _ told.other _ is.beside.1 is.beside.2 is.beside.3 beside.other)
     is.first is.put_off is.within
     (subst (λ (l : Option Late). IsLate viewed.session viewed.connection answer l) (sym is.beside.4) (beside.late clocked)) (reached_so records answer told.reached (reached_value c.in_ok-reached-in-Nothing.reached) is.reached c.in_ok-reached-in-Nothing.ensures)
-    (reason_so viewed.session framings.sent.limit peer records (second_at entries 0) (shown_places entries) answer told.deed _ told.reason _ is.reason.0 is.reason.1 c.in_ok-reason-in-Nothing.ensures)
+    Unasked
+    (nothing_instead options.within framings viewed.connection entries answer told.found (is.beside.1 ∙ beside.found))
+    (reason_so viewed.session framings.sent.limit peer records (second_at entries 0) (shown_places entries) Unasked answer told.deed _ told.reason _ is.reason.0 is.reason.1 c.in_ok-reason-in-Nothing.ensures)
     is.unshown.0 is.unshown.1
 
 pub returns-in-NoOrder : goal.returns-in-NoOrder
@@ -84,7 +88,9 @@ returns-in-NoOrder g c = λ clocked made.
     (other_so viewed.session framings.sent.limit peer records told.found _ told.in_made _ told.other _ is.beside.1 is.beside.2 is.beside.3 beside.other)
     is.first is.put_off is.within
     (subst (λ (l : Option Late). IsLate viewed.session viewed.connection answer l) (sym is.beside.4) (beside.late clocked)) (reached_so records answer told.reached (reached_value c.in_ok-reached-in-NoOrder.reached) is.reached c.in_ok-reached-in-NoOrder.ensures)
-    (reason_so viewed.session framings.sent.limit peer records (second_at entries 0) (shown_places entries) answer told.deed _ told.reason _ is.reason.0 is.reason.1 c.in_ok-reason-in-NoOrder.ensures)
+    c.instead_of-instead.result
+    (subst (λ (f : Option NoOrder). AreInstead options.within framings viewed.connection entries answer f c.instead_of-instead.result) (sym (is.beside.1 ∙ beside.found)) (c.instead_of-instead.ensures clocked))
+    (reason_so viewed.session framings.sent.limit peer records (second_at entries 0) (shown_places entries) c.instead_of-instead.result answer told.deed _ told.reason _ is.reason.0 is.reason.1 c.in_ok-reason-in-NoOrder.ensures)
     is.unshown.0 is.unshown.1
 
 pub returns-in-Unfinished : goal.returns-in-Unfinished
@@ -126,7 +132,9 @@ returns-in-Unfinished g c = λ clocked made.
     is.first is.put_off is.within
     (subst (λ (l : Option Late). IsLate viewed.session viewed.connection (answer_value c.unfinished-answer.result) l) (sym (is.beside.4 ∙ beside.late)) (c.in_ok-late-in-Unfinished.ensures clocked))
     (reached_so records (answer_value c.unfinished-answer.result) told.reached (reached_value c.in_ok-reached-in-Unfinished.reached) is.reached c.in_ok-reached-in-Unfinished.ensures)
-    (reason_so viewed.session framings.sent.limit peer records (second_at entries 0) (shown_places entries) answer told.deed _ told.reason _ is.reason.0 is.reason.1 c.in_ok-reason-in-Unfinished.ensures)
+    Unasked
+    (nothing_instead options.within framings viewed.connection entries answer told.found (is.beside.1 ∙ beside.found))
+    (reason_so viewed.session framings.sent.limit peer records (second_at entries 0) (shown_places entries) Unasked answer told.deed _ told.reason _ is.reason.0 is.reason.1 c.in_ok-reason-in-Unfinished.ensures)
     is.unshown.0 is.unshown.1
 
 pub returns : goal.returns
@@ -168,7 +176,9 @@ returns g c = λ clocked made.
     (nothing_other viewed.session framings.sent.limit peer records told.found told.in_made told.other nothing (is.beside.3 ∙ beside.other))
     is.first is.put_off is.within
     (yes_not_late viewed.session options.within framings viewed.connection answer told.late sought.3 (is.beside.4 ∙ beside.late)) (reached_so records answer told.reached (reached_value c.in_ok-reached-in-Another.reached) is.reached c.in_ok-reached-in-Another.ensures)
-    (reason_so viewed.session framings.sent.limit peer records (second_at entries 0) (shown_places entries) answer told.deed _ told.reason _ is.reason.0 is.reason.1 c.in_ok-reason-in-Another.ensures)
+    Unasked
+    (nothing_instead options.within framings viewed.connection entries answer told.found nothing)
+    (reason_so viewed.session framings.sent.limit peer records (second_at entries 0) (shown_places entries) Unasked answer told.deed _ told.reason _ is.reason.0 is.reason.1 c.in_ok-reason-in-Another.ensures)
     is.unshown.0 is.unshown.1
 
 pub reached_on-requires-clause-watched : goal.reached_on-requires-clause-watched

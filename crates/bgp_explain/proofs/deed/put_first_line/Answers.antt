@@ -1,4 +1,5 @@
-use Rattle.std.proofs.Common.{refl}
+use Rattle.std.proofs.Common.{[], refl}
+use Rattle.bgp_verdict_lines.proofs.Puts.{no_lines}
 use Rattle.bgp_explain.specs.Deed.{line_of}
 use Rattle.bgp_explain.specs.Kept.{shown_by}
 use Rattle.bgp_explain.specs.Lacked.{lacked_of}
@@ -15,3 +16,6 @@ returns-in-Some g c =
       (deed, is, refl),
       wrote,
     )
+
+pub returns-in-None : goal.returns-in-None
+returns-in-None g c = rw c.in-None.is ([], refl, no_lines g.met.W.Sink.nothing c.args.lines.now)

@@ -1,33 +1,30 @@
-use Rattle.std.proofs.Common.{◌∙◌, ◌⊎◌, ◌≡◌, ◌≤◌, ℕ, Bool, IsTrue, IsFalse, inl, inr, is_some, arith, rules}
-use Rattle.bgp_text.proofs.Pieces.{Joins, and_nothing}
+use Rattle.std.proofs.Common.{◌≤◌, ℕ, is_some, rules, subst, sym}
 use Rattle.bgp_text.proofs.Fresh.{IsFresh}
-use Rattle.bgp_tool.proofs.CaptureJudged.{is_written, answer_below}
+use Rattle.bgp_text.proofs.Pieces.{Joins}
+use Rattle.bgp_tool.proofs.CaptureJudged.{answer_below}
+use Rattle.bgp_tool.specs.Answer.{answer_status}
+use Rattle.bgp_verdict_lines.proofs.Printed.{handed_below, printed_in, status_below}
+use Rattle.bgp_verdict_lines.specs.Teller.{teller_status}
 use Rattle.bgp_explain.proofs.headline.write_explained.Goals as goal
-
-told_as : (failed : Bool) (status one wanted : ℕ) → (IsFalse failed × (status ≡ one)) ⊎ (IsTrue failed × (status ≡ 5)) → one ≡ wanted
-    → (IsFalse failed × (status ≡ wanted)) ⊎ (IsTrue failed × (status ≡ 5))
-told_as failed status one wanted (inl calm) is = inl (calm.0, calm.1 ∙ is)
-told_as failed status one wanted (inr broken) is = inr broken
-
-below : (failed : Bool) (status one wanted : ℕ) → (IsFalse failed × (status ≡ one)) ⊎ (IsTrue failed × (status ≡ 5)) → one ≡ wanted → wanted ≤ 5 → status ≤ 5
-below failed status one wanted (inl calm) is few = let same = calm.1 in omega (arith, same, is, few)
-below failed status one wanted (inr broken) is few = let same = broken.1 in omega (arith, same)
 
 pub returns-clause-writes : goal.returns-clause-writes
 returns-clause-writes g c =
     let law : Joins g.W.Sink = record { joined = g.met.W.Sink.joined } in
-    let fresh : IsFresh c.new-lines.result = record { empty = c.new-lines.ensures.empty; calm = c.new-lines.ensures.fresh } in
+    let first = c.new-lines.result in
+    let last = c.put_explained-status.new.lines in
+    let fresh : IsFresh first.lines = record { empty = c.new-lines.ensures.empty; calm = c.new-lines.ensures.fresh } in
     let (text, is_text, put) = c.put_explained-status.ensures.writes in
-    let wrote = and_nothing law put c.hand_over-status.ensures.writes in
-    let same = wrote.same_sink ∙ c.new-lines.ensures.same in (
+    let told = rw c.put_explained-status.ensures.status at c.finish-status.ensures.told in (
       text,
       is_some c.details_of-details.result,
       is_text,
       rw c.code.ensures
-          (is_written c.new-lines.result c.hand_over-status.new.lines c.args.sink.now _ fresh c.new-lines.ensures.now (search rules)
-          _ _ _ wrote c.hand_over-status.ensures.none (told_as _ _ _ _ c.hand_over-status.ensures.told c.put_explained-status.ensures.status)),
+          (printed_in law c.args.form first last c.finish-status.new.self.lines c.args.sink.now _ text (answer_status c.args.explained.now.answer) _ fresh c.new-lines.ensures.now
+          (search rules) c.new-lines.ensures.starts put c.finish-status.ensures.writes c.finish-status.ensures.none told),
     )
 
 pub returns-clause-statuses : goal.returns-clause-statuses
 returns-clause-statuses g c =
-    rw c.code.ensures (below _ _ _ _ c.hand_over-status.ensures.told c.put_explained-status.ensures.status (answer_below c.args.explained.now.answer))
+    let few = answer_below c.args.explained.now.answer in
+    let told = rw c.put_explained-status.ensures.status at c.finish-status.ensures.told in
+    rw c.code.ensures (handed_below told (status_below c.put_explained-status.new.lines.teller (answer_status c.args.explained.now.answer) few))

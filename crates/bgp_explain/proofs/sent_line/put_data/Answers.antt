@@ -1,8 +1,9 @@
 use Rattle.std.proofs.Common.{◌≡◌, ◌≢◌, ◌∙◌, ◌∷◌, List, ℕ, [], ap, length, refl, subst, sym, take}
 use Rattle.std.proofs.lemmas.Bool.{eqb-false, eqb-true}
 use Rattle.bgp_text.proofs.Fresh.{IsFresh}
-use Rattle.bgp_text.proofs.Pieces.{and_nothing, nothing_yet}
-use Rattle.bgp_text.specs.Lines.{Writes}
+use Rattle.bgp_text.proofs.Pieces.{and_nothing}
+use Rattle.bgp_verdict_lines.specs.Lines.{PutsLines}
+use Rattle.bgp_verdict_lines.proofs.Puts.{no_lines}
 use Rattle.bgp_lines.specs.Notifications.{error_data_text}
 use Rattle.bgp_values.specs.ErrorData.{ErrorFields, error_of}
 use Rattle.bgp_why.specs.MessageLine.{data_line}
@@ -24,8 +25,8 @@ pub returns-then-is_empty : goal.returns-then-is_empty
 returns-then-is_empty g c =
     let error = error_of c.args.error in
     let none = eqb-true (length error.detail) 0 (sym c.is_empty.ensures ∙ c.if-is_empty.true) in
-    subst (λ (t : List ℕ). Writes c.args.lines.now c.args.lines.now t) (sym (none_there error error.detail none))
-    (nothing_yet g.W.Sink g.met.W.Sink.nothing c.args.lines.now.outlet c.args.lines.now.held.items)
+    subst (λ (t : List ℕ). PutsLines c.args.lines.now c.args.lines.now t) (sym (none_there error error.detail none))
+    (no_lines g.met.W.Sink.nothing c.args.lines.now)
 
 pub returns : goal.returns
 returns g c =
@@ -37,4 +38,4 @@ returns g c =
     let empty = ap (λ (r : Room). r.kept.items) c.new-within.ensures.now ∙ c.new-room.ensures in
     let front = front_of (λ (r : Room). r.kept.items) (λ a b xs takes. takes) (λ a. refl) c.new-within.result c.hand_over.new.self text fresh wrote empty c.hand_over.ensures.none in
     let is : c.front.result.now ≡ take 256 text = rw c.into_sink.ensures at c.front.ensures ∙ front in
-    subst (λ (t : List ℕ). Writes c.args.lines.now c.put_data_line.new.lines t) (sym (some_there error error.detail some)) (c.put_data_line.ensures text is)
+    subst (λ (t : List ℕ). PutsLines c.args.lines.now c.put_data_line.new.lines t) (sym (some_there error error.detail some)) (c.put_data_line.ensures text is)

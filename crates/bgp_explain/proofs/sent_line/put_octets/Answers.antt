@@ -2,6 +2,7 @@ use Rattle.std.proofs.Common.{◌≡◌, ◌≢◌, ◌∙◌, ℕ, [], arith, i
 use Rattle.bgp_wire.specs.Header.{type_of}
 use Rattle.bgp_wire.specs.Verdict.{type_code}
 use Rattle.bgp_why.specs.Lacks.{IsWholeOf}
+use Rattle.bgp_verdict_lines.proofs.Puts.{no_lines}
 use Rattle.bgp_explain.proofs.WholeSent.{faulty_of, is_notification, not_of, whole_of}
 use Rattle.bgp_explain.proofs.sent_line.put_octets.Goals as goal
 
@@ -32,4 +33,4 @@ pub returns-in-Keepalive : goal.returns-in-Keepalive
 returns-in-Keepalive g c =
     let (sound, count, kind) = c.in-Whole.ensures.verdict in
     let four = rw c.in-Keepalive.is at kind in
-    ([], inl (whole_of c.args.limit c.args.octets.now _ c.requires.long c.requires.whole c.in-Some.ensures.some 4 sound four, refl), c.put.ensures)
+    ([], inl (whole_of c.args.limit c.args.octets.now _ c.requires.long c.requires.whole c.in-Some.ensures.some 4 sound four, refl), no_lines g.met.W.Sink.nothing c.args.lines.now)

@@ -1,9 +1,7 @@
+use Rattle.bgp_json_verdicts.specs.Lines.{line_text, reason_text}
 use Rattle.bgp_explain.specs.Skipped.{kinds_line}
-use Rattle.bgp_text.proofs.Pieces.{Joins, and_then}
 use Rattle.bgp_explain.proofs.skipped.put_kinds.Goals as goal
 
 pub returns : goal.returns
-unfolding kinds_line
-returns g c =
-    let law : Joins g.W.Sink = record { joined = g.met.W.Sink.joined } in
-    and_then law c.put.ensures (and_then law c.put_decimal.ensures c.put-2.ensures)
+unfolding line_text reason_text kinds_line
+returns g c = c.put_other_kinds.ensures

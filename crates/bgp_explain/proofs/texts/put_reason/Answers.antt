@@ -1,5 +1,6 @@
 use Rattle.std.proofs.Common.{◌++◌, refl}
-use Rattle.bgp_text.proofs.Pieces.{Joins, and_then}
+use Rattle.bgp_text.proofs.Pieces.{Joins}
+use Rattle.bgp_verdict_lines.proofs.Puts.{then_lines}
 use Rattle.bgp_explain.specs.Lacked.{lacked_of}
 use Rattle.bgp_explain.proofs.texts.put_reason.Goals as goal
 
@@ -18,5 +19,5 @@ returns g c =
         why = why;
         whole = refl;
       },
-      and_then law put put_rest,
+      then_lines law put put_rest,
     )

@@ -1,5 +1,6 @@
 use Rattle.std.proofs.Common.{◌++◌, refl}
-use Rattle.bgp_text.proofs.Pieces.{Joins, and_then}
+use Rattle.bgp_text.proofs.Pieces.{Joins}
+use Rattle.bgp_verdict_lines.proofs.Puts.{then_lines}
 use Rattle.bgp_explain.specs.Details.{asking_in, next_in}
 use Rattle.bgp_explain.specs.Lacked.{lacked_of}
 use Rattle.bgp_explain.specs.Why.{why_text}
@@ -26,5 +27,5 @@ returns g c =
         are_lacks = c.requires.details.lacks;
         whole = refl;
       },
-      and_then law put c.put_why.ensures,
+      then_lines law put c.put_why.ensures,
     )

@@ -27,6 +27,7 @@ returns g c =
     let entries = c.args.entries.now in
     let verdict = verdict_value c.args.explained.now.verdict in
     let (more, so, put) = c.put_explained_records.ensures (records_of entries) c.requires.explained in
-    let style = c.plain-style.ensures ∙ ap (λ (n : ℕ). plain n true) c.first_second_of.ensures in
+    let instead = c.args.instead in
+    let style = ap (λ (s : Style). record s { other_orders = instead }) (c.plain.ensures ∙ ap (λ (n : ℕ). plain n true) c.first_second_of.ensures) in
     let says = subst (λ (s : Style). SaysWhere config s config.parts.session (shown_places entries) (records_of entries) (is_some c.details-details.result) verdict more) style so in
-    (more, or_not config (made_style entries) config.parts.session (shown_places entries) (records_of entries) (is_some c.details-details.result) verdict more says, put)
+    (more, or_not config (made_style entries instead) config.parts.session (shown_places entries) (records_of entries) (is_some c.details-details.result) verdict more says, put)

@@ -2,8 +2,9 @@ use Rattle.std.proofs.Common.{◌∙◌, List, None, ap, subst, sym}
 use Rattle.bgp_judge.specs.Verdict.{VerdictValue, verdict_value}
 use Rattle.bgp_recording.specs.Captured.{records_of}
 use Rattle.bgp_recording.specs.declared.entry.Entry.{Entry}
-use Rattle.bgp_text.specs.Lines.{Writes}
+use Rattle.bgp_verdict_lines.specs.Lines.{PutsLines}
 use Rattle.bgp_explain.specs.Records.{AreExplained}
+use Rattle.bgp_why.specs.declared.other_orders.OtherOrders.TheVariants.{Unasked}
 use Rattle.bgp_recording_tool.specs.Connections.{IsMore}
 use Rattle.bgp_recording_tool.specs.Told.{told_of, told_status, told_text}
 use Rattle.bgp_recording_tool.proofs.Searchings.{yes_can}
@@ -28,10 +29,10 @@ returns-in-Another g c =
     let verdict = verdict_value c.in-Another.another.explained.verdict in
     let (more, is_more, wrote, tells) = c.put_report-in-Another.ensures in
     let others = c.in-Another.another.recording.entries.items in
-    let is_more' = subst (λ (es : List Entry). IsMore report config es verdict more) c.as_slice-entries.ensures.value is_more in
+    let is_more' = subst (λ (es : List Entry). IsMore report config es Unasked verdict more) c.as_slice-entries.ensures.value is_more in
     rw c.in-Another.is (
       more,
-      subst (λ (v : VerdictValue). IsMore report config others v more) sought.1 is_more',
-      subst (λ (v : VerdictValue). Writes c.args.lines.now c.put_report-in-Another.new.lines (told_text (told_of v None more))) sought.1 wrote,
+      subst (λ (v : VerdictValue). IsMore report config others Unasked v more) sought.1 is_more',
+      subst (λ (v : VerdictValue). PutsLines c.args.lines.now c.put_report-in-Another.new.lines (told_text (told_of v None more))) sought.1 wrote,
       tells ∙ ap (λ (v : VerdictValue). told_status (told_of v None more)) sought.1,
     )

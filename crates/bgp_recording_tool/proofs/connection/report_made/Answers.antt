@@ -9,7 +9,7 @@ use Rattle.bgp_parts.specs.Confederations.{SomeShowConfederations}
 use Rattle.bgp_explain.specs.LeftOut.{JudgesWithout}
 use Rattle.bgp_explain.specs.Records.{AreExplained, CanBeShown}
 use Rattle.bgp_explain.proofs.NextRecord.{can_of, entries_can}
-use Rattle.bgp_recording_tool.specs.Connections.{IsMoreOf}
+use Rattle.bgp_recording_tool.specs.Connections.{IsInstead, IsMoreOf}
 use Rattle.bgp_recording_tool.specs.Found.{entries_of, found_of}
 use Rattle.bgp_recording_tool.proofs.connection.report_made.Goals as goal
 
@@ -47,6 +47,8 @@ returns g c = λ packets segments taken holds.
       is = subst (λ (rs : List ShownRecord). HasVerdict config rs verdict) (ap (map shown_of) c.deref.ensures.value ∙ records) c.in_ok-explained.ensures.explained.verdict;
       is_found = c.search_orders-searched.ensures.found packets segments taken holds;
       is_more = subst (λ (es : List Entry). IsMoreOf c.args.report config es (entries_of c.search_orders-searched.result) verdict (found_of c.search_orders-searched.result) more) same is_more;
+      instead = subst (λ (es : List Entry). IsInstead config c.args.import.now packets segments c.args.report c.args.number es verdict (found_of c.search_orders-searched.result)) same
+          (c.search_orders-searched.ensures.instead packets segments taken holds);
       wrote = wrote;
       confederation = c.some_show_confederations-confederation.result;
       shows = subst (λ (rs : List ShownRecord). IsTrue c.some_show_confederations-confederation.result ↔ SomeShowConfederations rs) (ap (map shown_of) c.deref-2.ensures.value ∙ records)

@@ -17,7 +17,7 @@ returns-then-not-is_recording-clause-reported g c =
       is = inr (
         sym c.if-not-is_recording.ensures,
         subst
-            (λ (o : JudgedCapture). ReportsOpened (peeked_remaining g.R.Read.remaining) g.W.Write.contents c.args.config.now g.T.Tracker.may_lack c.args.file c.new-peeked.result
+            (λ (o : JudgedCapture). ReportsOpened c.args.form (peeked_remaining g.R.Read.remaining) g.W.Write.contents c.args.config.now g.T.Tracker.may_lack c.args.file c.new-peeked.result
             (writer_state c.args.sink.now) (writer_state c.judge_opened-judged.new.sink) o c.args.report)
             (same_judged c.judge_opened-judged.result outcome.result.status outcome.result.skipped outcome.result.note outcome.result.confederation
             outcome.result.left_out outcome.ensures.status outcome.ensures.skipped outcome.ensures.note outcome.ensures.confederation outcome.ensures.left_out)

@@ -1,22 +1,19 @@
 use Rattle.std.proofs.Common.{◌≡◌, ◌∙◌, ◌++◌, List, None, refl, sym, ap, subst, inr, rules}
 use Rattle.bgp_tool.specs.Status.{code_of}
-use Rattle.bgp_text.proofs.Pieces.{Joins, and_nothing}
+use Rattle.bgp_text.proofs.Pieces.{Joins}
 use Rattle.bgp_text.proofs.Fresh.{IsFresh}
-use Rattle.bgp_tool.proofs.CaptureJudged.{is_written}
+use Rattle.bgp_verdict_lines.proofs.Printed.{printed_in}
 use Rattle.bgp_import.specs.declared.importing.Import.{Import}
 use Rattle.bgp_recording_tool.specs.Judging.{TellsRecording}
 use Rattle.bgp_recording_tool.specs.Options.{IsMisfit}
 use Rattle.bgp_recording_tool.specs.declared.remark.Remark.{Remark}
-use Rattle.bgp_recording_tool.proofs.Texts.{told_as}
 use Rattle.bgp_recording_tool.proofs.headline.judge_recording.Goals as goal
 
 pub returns : goal.returns
 returns g c =
     let law : Joins g.W.Sink = record { joined = g.met.W.Sink.joined } in
-    let fresh : IsFresh c.new-lines.result = record { empty = c.new-lines.ensures.empty; calm = c.new-lines.ensures.fresh } in
+    let fresh : IsFresh c.new-lines.result.lines = record { empty = c.new-lines.ensures.empty; calm = c.new-lines.ensures.fresh } in
     let puts = c.judge_source-status.ensures in
-    let wrote = and_nothing law puts.wrote c.hand_over-status.ensures.writes in
-    let same = wrote.same_sink ∙ c.new-lines.ensures.same in
     let meant = c.import_of-import.ensures in
     let own : puts.own ≡ c.judge_source-status.new.remarks.items =
     sym (puts.added ∙ ap (λ (o : List Remark). o ++ puts.own) c.new-remarks.ensures.items) in
@@ -34,7 +31,7 @@ returns g c =
             c.args.source.now c.judge_source-status.new.source c.judge_source-status.result.1 puts.text (code_of c.judge_source-status.result.0) o)
             own puts.holds);
         written = rw c.code.ensures
-            (is_written c.new-lines.result c.hand_over-status.new.lines c.args.sink.now _ fresh c.new-lines.ensures.now (search rules)
-            _ _ _ wrote c.hand_over-status.ensures.none (told_as _ _ _ _ c.hand_over-status.ensures.told refl));
+            (printed_in law c.args.form c.new-lines.result c.judge_source-status.new.lines c.finish-status.new.self.lines c.args.sink.now _ puts.text (code_of c.judge_source-status.result.0) _ fresh
+            c.new-lines.ensures.now (search rules) c.new-lines.ensures.starts puts.wrote c.finish-status.ensures.writes c.finish-status.ensures.none c.finish-status.ensures.told);
       },
     )

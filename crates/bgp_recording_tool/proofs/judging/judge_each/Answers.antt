@@ -1,7 +1,7 @@
 use Rattle.std.proofs.Common.{◌≡◌, ◌+◌, ℕ, length, reverse, subst, add-one, arith}
 use Rattle.streams.specs.Connections.{numbered}
 use Rattle.bgp_tool.specs.Status.{code_of}
-use Rattle.bgp_text.proofs.Pieces.{Joins, and_then}
+use Rattle.bgp_text.proofs.Pieces.{Joins}
 use Rattle.bgp_recording_tool.specs.Judging.{Puts}
 use Rattle.bgp_recording_tool.specs.Connections.{AreTold}
 use Rattle.bgp_recording_tool.proofs.Puttings.{one_more_at}
@@ -10,11 +10,11 @@ use Rattle.bgp_recording_tool.proofs.judging.judge_each.Goals as goal
 pub loop-index-preserved : goal.loop-index-preserved
 loop-index-preserved g c = λ packets segments taken holds.
     let law : Joins g.W.Sink = record { joined = g.met.W.Sink.joined } in
-    one_more_at law c.args.lines.now c.loop-index.lines c.put.new.self c.report_connection-told.new.lines c.args.remarks.now.items c.loop-index.remarks.items
+    one_more_at law c.args.lines.now c.loop-index.lines c.put_opening.new.lines c.report_connection-told.new.lines c.args.remarks.now.items c.loop-index.remarks.items
     c.report_connection-told.new.remarks.items c.args.config.now c.args.report c.args.import.now packets segments c.loop-index.index (c.loop-index.index + 1) (code_of c.loop-index.status)
     (code_of c.report_connection-told.result) (code_of c.status_over-status.result) c.in-Some.opening (add-one c.loop-index.index)
     (c.loop-index.invariant packets segments taken holds) (c.in-Some.ensures (reverse segments) (length packets) holds)
-    (and_then law c.put_opening.ensures c.put.ensures) (c.report_connection-told.ensures packets segments taken holds) c.status_over-status.ensures
+    c.put_opening.ensures (c.report_connection-told.ensures packets segments taken holds) c.status_over-status.ensures
 
 pub returns : goal.returns
 returns g c = λ packets segments taken holds.

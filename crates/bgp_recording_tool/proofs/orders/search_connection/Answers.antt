@@ -7,3 +7,6 @@ pub returns-in-Ok-No-clause-found : goal.returns-in-Ok-No-clause-found
 returns-in-Ok-No-clause-found g c = λ clocked.
     let told = rw c.in-Ok-No.is at c.verdict_over_orders.ensures in
     subst (λ (o : OverOrders). IsOverOrders c.args.config.now c.args.within c.args.framings c.args.connection.now o) c.in-Ok-No.field-0-is (told clocked)
+
+pub returns-in-Ok-No-clause-instead : goal.returns-in-Ok-No-clause-instead
+returns-in-Ok-No-clause-instead g c = c.instead_of-instead.ensures

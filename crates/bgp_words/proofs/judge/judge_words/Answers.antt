@@ -13,9 +13,10 @@ returns-clause-words c =
     let set = c.in_ok-judge-2.ensures.words ∙ ap with_settings filed in
     let offers = c.in_ok-judge-3.ensures.words.is ∙ ap (λ (a : App). with_rule a (option_word (codes "offers"))) set in
     let told = c.in_ok-judge-4.ensures.words ∙ ap with_recording offers in
-    IfOk-weaker c.with_word-3.result _ _ (λ judge adds. adds.is ∙ ap (λ (a : App). with_rule a (flag_word (codes "explain"))) told)
-    c.with_word-3.ensures.words
+    let explained = c.in_ok-judge-5.ensures.words.is ∙ ap (λ (a : App). with_rule a (flag_word (codes "explain"))) told in
+    IfOk-weaker c.with_word-4.result _ _ (λ judge adds. adds.is ∙ ap (λ (a : App). with_rule a (flag_word (codes "json"))) explained)
+    c.with_word-4.ensures.words
 
 pub returns-clause-local : goal.returns-clause-local
 returns-clause-local c =
-    c.with_word-3.ensures.local (c.in_ok-judge-4.ensures.local (c.in_ok-judge-3.ensures.local (c.in_ok-judge-2.ensures.local (c.in_ok-judge.ensures.local (ap (λ f. f.has_globals) c.override_usage-judge.ensures ∙ c.new_command.ensures.local)))))
+    c.with_word-4.ensures.local (c.in_ok-judge-5.ensures.local (c.in_ok-judge-4.ensures.local (c.in_ok-judge-3.ensures.local (c.in_ok-judge-2.ensures.local (c.in_ok-judge.ensures.local (ap (λ f. f.has_globals) c.override_usage-judge.ensures ∙ c.new_command.ensures.local))))))

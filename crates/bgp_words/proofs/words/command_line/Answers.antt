@@ -8,7 +8,7 @@ use Rattle.bgp_words.specs.Words.{program_words}
 use Rattle.bgp_words.specs.Recording.{usual_recording}
 use Rattle.bgp_words.specs.Spelled.{Names, NamesDecode, NamesJudge}
 use Rattle.bgp_words.proofs.HandedOn.{handed_on, memory_handed_on, known_kind, only_memory, unspelled_handed_on, memory_is_unspelled, judge_memory_handed_on}
-use Rattle.bgp_words.proofs.JudgeLine.{judge_of_line, names_judge, spelled_right}
+use Rattle.bgp_words.proofs.JudgeLine.{judge_of_line, names_judge, spelled_right, told}
 use Rattle.bgp_words.proofs.NamedCommand.{can_import, can_speak, one_file}
 use Rattle.bgp_words.proofs.SpelledDecode.{spelled_decode}
 use Rattle.bgp_words.proofs.ValueRows.{each_value, memory_handed}
@@ -117,7 +117,7 @@ pub returns-clause-judge : goal.returns-clause-judge
 returns-clause-judge g c config file line =
     let words = map g.S.AsStr.text c.args.words.now in
     let subs = (c.in_ok-matches.ensures.matches refl).1 in
-    absurd (c.in-Err.ensures.no_judge refl config usual_recording false file (subst (NamesJudge config usual_recording false file) (sym subs) (names_judge words config file line)))
+    absurd (c.in-Err.ensures.no_judge refl config usual_recording (told false false) file (subst (NamesJudge config usual_recording (told false false) file) (sym subs) (names_judge words config file line)))
 
 pub returns-in-Ok-clause-speakable : goal.returns-in-Ok-clause-speakable
 returns-in-Ok-clause-speakable g c = can_speak (subcommand_rows_of c.in_ok-matches.matches) c.in-Ok.command c.in-Ok.ensures.ok

@@ -47,11 +47,11 @@ returns-in-Some-clause-no_stream c err form extended file names =
     (subst (NamesDecode form extended file) (met_command _ _ _ (codes "decode") rows (met.ensures.found.0 refl) met.ensures.rows) names).1
 
 pub returns-in-Some-subcommand_matches-clause-no_judge : goal.returns-in-Some-subcommand_matches-clause-no_judge
-returns-in-Some-subcommand_matches-clause-no_judge c err config recording explain file names =
+returns-in-Some-subcommand_matches-clause-no_judge c err config recording reporting file names =
     let met = c.in-Some-subcommand_matches in
     let rows = rows_of (found_of met.judge.now) in
-    c.judge_of.ensures.err err config recording explain file
-    (subst (NamesJudge config recording explain file) (met_command _ _ _ (codes "judge") rows (met.ensures.found.0 refl) met.ensures.rows) names).1
+    c.judge_of.ensures.err err config recording reporting file
+    (subst (NamesJudge config recording reporting file) (met_command _ _ _ (codes "judge") rows (met.ensures.found.0 refl) met.ensures.rows) names).1
 
 pub returns-in-Some-subcommand_matches-clause-none : goal.returns-in-Some-subcommand_matches-clause-none
 returns-in-Some-subcommand_matches-clause-none c err command names =

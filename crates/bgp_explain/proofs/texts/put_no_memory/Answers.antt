@@ -1,0 +1,6 @@
+use Rattle.bgp_json_verdicts.specs.Lines.{line_text, reason_text}
+use Rattle.bgp_explain.proofs.texts.put_no_memory.Goals as goal
+
+pub returns : goal.returns
+unfolding line_text reason_text
+returns g c = c.put_note.ensures

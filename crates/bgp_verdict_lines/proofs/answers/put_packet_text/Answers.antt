@@ -1,0 +1,9 @@
+use Rattle.bgp_json_verdicts.specs.Lines.{line_text}
+use Rattle.bgp_text.proofs.Pieces.{Joins, and_then}
+use Rattle.bgp_verdict_lines.proofs.answers.put_packet_text.Goals as goal
+
+pub returns : goal.returns
+unfolding line_text
+returns g c =
+    let law : Joins g.W.Sink = record { joined = g.met.W.Sink.joined } in
+    and_then law c.put.ensures (and_then law c.put_decimal.ensures c.put-2.ensures)

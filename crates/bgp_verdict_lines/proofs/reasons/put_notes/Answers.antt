@@ -1,0 +1,9 @@
+use Rattle.bgp_verdict_lines.proofs.SameTexts.{notes_same}
+use Rattle.bgp_verdict_lines.proofs.Puts.{all_lines, in_text}
+use Rattle.bgp_verdict_lines.proofs.reasons.put_notes.Goals as goal
+
+pub returns-in-Text : goal.returns-in-Text
+returns-in-Text g c = in_text c.args.lines.now _ _ c.in-Text.is c.put_notes.ensures
+
+pub returns-in-Json : goal.returns-in-Json
+returns-in-Json g c = all_lines c.args.lines.now _ _ _ _ _ c.in-Json.is c.tell_notes.ensures (notes_same c.args.style.now.is_recording c.args.notes.now)

@@ -1,0 +1,3 @@
+pub mod Teller
+pub mod Printed
+pub mod Lines
