@@ -1,6 +1,6 @@
 //! The lines of a reason, but for that of the impossible record.
 
-ghost use Rattle.std.specs.Prelude.{◌≡◌, ℕ, List, map, take};
+ghost use Rattle.std.specs.Prelude.{◌≡◌, ℕ, List, Some, map, take};
 ghost use Rattle.bgp_text.specs.Lines.{Writes};
 ghost use Rattle.bgp_why.specs.Applying.{last_update_line};
 ghost use Rattle.bgp_why.specs.Asked.{last_received_line};
@@ -89,6 +89,17 @@ fn put_unfit<A: Allocator + Copy, W: Sink>(lines: &mut VerdictLines<'_, A, W>, w
     }
 }
 
+/// Puts why a message is no whole one, if its octets don't fit.
+fn put_misfit<A: Allocator + Copy, W: Sink>(lines: &mut VerdictLines<'_, A, W>, why: NotWhole)
+    ensures { PutsLines lines.old lines.new (not_whole_line (Some why)) }
+{
+    match why {
+        NotWhole::Faulty(_) => {}
+        NotWhole::BelowHeader => put_unfit(lines, why),
+        NotWhole::OtherCount => put_unfit(lines, why),
+    }
+}
+
 /// Puts why a message is no whole one, if its octets don't fit. The message's name has the faults of
 /// a header.
 pub fn put_not_whole<A: Allocator + Copy, W: Sink>(
@@ -99,9 +110,7 @@ pub fn put_not_whole<A: Allocator + Copy, W: Sink>(
 {
     match why {
         None => {}
-        Some(NotWhole::Faulty(_)) => {}
-        Some(NotWhole::BelowHeader) => put_unfit(lines, NotWhole::BelowHeader),
-        Some(NotWhole::OtherCount) => put_unfit(lines, NotWhole::OtherCount),
+        Some(why) => put_misfit(lines, why),
     }
 }
 

@@ -15,7 +15,7 @@ returns-in-Json g c =
     let (deed, is, said) = c.deed_text-text.ensures in
     let session = c.args.session.now in (
       deed,
-      subst (λ (f : RouteForm). IsDeed session (peer_of session) f (shown_of c.args.shown.now) deed) c.form_on.ensures is,
+      subst (λ (f : RouteForm). IsDeed session (peer_of session) f (shown_of c.args.shown.now) deed) c.form_on-form.ensures is,
       in_json c.args.lines.now _ _ _ _ c.in-Json.is
           (c.tell_record.ensures deed (cause_text c.args.style.now.own_faults c.args.possible.now c.args.lacks.now) said),
     )

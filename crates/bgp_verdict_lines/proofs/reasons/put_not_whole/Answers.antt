@@ -3,6 +3,3 @@ use Rattle.bgp_verdict_lines.proofs.reasons.put_not_whole.Goals as goal
 
 pub returns-in-None : goal.returns-in-None
 returns-in-None g c = rw c.in-None.is (no_lines g.met.W.Sink.nothing c.args.lines.now)
-
-pub returns-in-Some-Faulty : goal.returns-in-Some-Faulty
-returns-in-Some-Faulty g c = rw c.in-Some-Faulty.is (no_lines g.met.W.Sink.nothing c.args.lines.now)
