@@ -16,3 +16,4 @@ pub mod SameVerdict
 mod OneReason
 mod YesShown
 mod EntryLines
+mod SameSink

@@ -7,6 +7,7 @@ use Rattle.bgp_import.specs.declared.importing.Import.{Import}
 use Rattle.bgp_recording_tool.specs.Judging.{TellsRecording}
 use Rattle.bgp_recording_tool.specs.Options.{IsMisfit}
 use Rattle.bgp_recording_tool.specs.declared.remark.Remark.{Remark}
+use Rattle.bgp_recording_tool.proofs.SameSink.{same_sink}
 use Rattle.bgp_recording_tool.proofs.headline.judge_recording.Goals as goal
 
 pub returns : goal.returns
@@ -14,6 +15,8 @@ returns g c =
     let law : Joins g.W.Sink = record { joined = g.met.W.Sink.joined } in
     let fresh : IsFresh c.new-lines.result.lines = record { empty = c.new-lines.ensures.empty; calm = c.new-lines.ensures.fresh } in
     let puts = c.judge_source-status.ensures in
+    let one = same_sink c.new-lines.result.lines c.judge_source-status.new.lines.lines c.new-lines.result.teller c.judge_source-status.new.lines.teller puts.text puts.wrote.puts in
+    let same = c.finish-status.ensures.writes.same_sink ∙ (one ∙ c.new-lines.ensures.same) in
     let meant = c.import_of-import.ensures in
     let own : puts.own ≡ c.judge_source-status.new.remarks.items =
     sym (puts.added ∙ ap (λ (o : List Remark). o ++ puts.own) c.new-remarks.ensures.items) in
