@@ -1,5 +1,5 @@
 -- What is told of an end, by the order in which it is told.
-use Rattle.std.proofs.Common.{◌≡◌, ◌∙◌, ◌⊎◌, true, ℕ, List, [], Option, None, Some, IfSome, ap, inl, inr, sym, subst}
+use Rattle.std.proofs.Common.{◌≡◌, ◌∙◌, ◌⊎◌, true, ℕ, List, [], Option, None, Some, IfSome, ap, inl, inr, sym, subst, refl}
 use Rattle.bgp_prefix.specs.Shown.{ShownRecord}
 use Rattle.bgp_prefix.specs.declared.session.Session.{Session}
 use Rattle.segments.specs.declared.found.Endpoint.{Endpoint}
