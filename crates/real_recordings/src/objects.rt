@@ -40,10 +40,10 @@ fn is_so(object: &Value<'_>, key: &str) -> bool {
 
 /// Returns the values of a list.
 fn values_of<'v, 'a>(value: Option<&'v Value<'a>>) -> &'v [Value<'a>] {
-    match value {
-        Some(Value::Array(values)) => values.as_slice(),
-        _ => &[],
-    }
+    let Some(Value::Array(values)) = value else {
+        return &[];
+    };
+    values.as_slice()
 }
 
 /// Puts words, and the number under a key, if there is one.
