@@ -1,5 +1,5 @@
 -- The texts of errors, one after another: two lists of errors have two texts.
-use Rattle.std.proofs.Common.{◌≡◌, ◌∙◌, ◌<◌, ◌^◌, ◌/◌, ◌%◌, ◌==◌, ◌++◌, ℕ, Bool, true, false, not, List, [], ◌∷◌, Option, Some, None, if◌then◌else◌, codes, refl, sym, ap, arith, lit<, slice_index, unwrap_or, append_assoc, append-nil}
+use Rattle.std.proofs.Common.{◌≡◌, ◌∙◌, ◌<◌, ◌^◌, ◌/◌, ◌%◌, ◌==◌, ◌++◌, ℕ, true, false, not, List, [], ◌∷◌, Option, if◌then◌else◌, codes, refl, sym, ap, arith, lit<, slice_index, unwrap_or, append_assoc, append-nil}
 use Rattle.std.specs.Fmt.{decimal}
 use Rattle.std.specs.List.{AllByRecursion}
 use Rattle.std.proofs.lemmas.Bool.{and_parts, both_ways, eq-eqb, not-true}
@@ -11,13 +11,39 @@ use Rattle.hex.proofs.HexLemmas.{IsDigits-lower_digits}
 use Rattle.bgp_names.specs.Errors.{short_error_name}
 use Rattle.bgp_names.proofs.Distinct.{decimal_lacks, head_of, lacks, one_front, tail_of}
 use Rattle.bgp_why_parts.specs.Codes.{code_text}
-use Rattle.bgp_why.specs.declared.errors.ErrorCode.{ErrorCode}
-use Rattle.bgp_why.specs.declared.errors.FixedData.{FixedData}
-use Rattle.bgp_why.specs.declared.errors.FixedData.TheVariants as variants
-use Rattle.bgp_why.specs.Errors.{data_text, error_of, error_text, errors_text, more_errors}
 
 differ : (m n : ℕ) → (m == n) ≡ false → m ≡ n → ⊥
-differ m n no is = both_ways (m == n) no (eq-eqb m n is)
+differ m n isnt is = both_ways (m == n) isnt (eq-eqb m n is)
+
+-- ---- errors: the types of bgp_why are its own
+
+-- the data that an error has to have
+pub data FixedData : Type 0 where
+  Free : FixedData
+  Octet : ℕ → FixedData
+  Field : ℕ → FixedData
+
+pub record ErrorCode : Type 0 where
+  pub code : ℕ
+  pub subcode : ℕ
+  pub fixed : FixedData
+
+abbrev pub data_text : FixedData → List ℕ
+data_text Free = []
+data_text (Octet octet) = codes " with data " ++ encode_lower (octet ∷ [])
+data_text (Field field) = codes " with data " ++ encode_lower (big_bytes 2 field)
+
+abbrev pub error_text : ErrorCode → List ℕ
+error_text error = code_text error.code error.subcode ++ data_text error.fixed
+
+abbrev pub more_errors : List ℕ → List ErrorCode → List ℕ
+more_errors word [] = []
+more_errors word (error ∷ []) = word ++ error_text error
+more_errors word (error ∷ another ∷ errors) = codes ", " ++ (error_text error ++ more_errors word (another ∷ errors))
+
+abbrev pub errors_text : List ℕ → List ErrorCode → List ℕ
+errors_text word [] = []
+errors_text word (error ∷ errors) = error_text error ++ more_errors word errors
 
 -- ---- a code, and what stands behind it
 
@@ -53,19 +79,19 @@ one_code_front k l m n x y sk sl sm sn e =
 
 -- which form the data have, and by the error
 abbrev form_of : FixedData → ℕ
-form_of variants.Free = 0
-form_of (variants.Octet octet) = 1
-form_of (variants.Field field) = 2
+form_of Free = 0
+form_of (Octet octet) = 1
+form_of (Field field) = 2
 
-abbrev form_by : ℕ → ℕ → ℕ
+abbrev pub form_by : ℕ → ℕ → ℕ
 form_by code subcode =
     if code == 1 then (if subcode == 2 then 2 else (if subcode == 3 then 1 else 0))
     else (if code == 2 then (if subcode == 1 then 2 else 0) else 0)
 
 abbrev Fits : FixedData → Type 0
-Fits variants.Free = Unit {0}
-Fits (variants.Octet octet) = octet < 256
-Fits (variants.Field field) = field < 65536
+Fits Free = Unit {0}
+Fits (Octet octet) = octet < 256
+Fits (Field field) = field < 65536
 
 one_digit : (d e : ℕ) → d < 16 → e < 16 → slice_index lower_digits d ≡ slice_index lower_digits e → d ≡ e
 one_digit d e sd se same =
@@ -82,23 +108,23 @@ one_octet o p x y so sp e =
 
 one_data : (a b : FixedData) (x y : List ℕ) → form_of a ≡ form_of b → Fits a → Fits b → data_text a ++ x ≡ data_text b ++ y → (a ≡ b) × (x ≡ y)
 unfolding encode_with
-one_data variants.Free variants.Free x y form fa fb e = (refl, e)
-one_data variants.Free (variants.Octet p) x y form fa fb e = absurd (differ 0 1 refl form)
-one_data variants.Free (variants.Field g) x y form fa fb e = absurd (differ 0 2 refl form)
-one_data (variants.Octet o) variants.Free x y form fa fb e = absurd (differ 1 0 refl form)
-one_data (variants.Octet o) (variants.Octet p) x y form fa fb e =
+one_data Free Free x y form fa fb e = (refl, e)
+one_data Free (Octet p) x y form fa fb e = absurd (differ 0 1 refl form)
+one_data Free (Field g) x y form fa fb e = absurd (differ 0 2 refl form)
+one_data (Octet o) Free x y form fa fb e = absurd (differ 1 0 refl form)
+one_data (Octet o) (Octet p) x y form fa fb e =
     let same = one_octet o p x y fa fb (append_cancel_left (codes " with data ") (digits_of o x) (digits_of p y) e) in
-    (ap variants.Octet same.0, same.1)
-one_data (variants.Octet o) (variants.Field g) x y form fa fb e = absurd (differ 1 2 refl form)
-one_data (variants.Field f) variants.Free x y form fa fb e = absurd (differ 2 0 refl form)
-one_data (variants.Field f) (variants.Octet p) x y form fa fb e = absurd (differ 2 1 refl form)
-one_data (variants.Field f) (variants.Field g) x y form fa fb e =
+    (ap Octet same.0, same.1)
+one_data (Octet o) (Field g) x y form fa fb e = absurd (differ 1 2 refl form)
+one_data (Field f) Free x y form fa fb e = absurd (differ 2 0 refl form)
+one_data (Field f) (Octet p) x y form fa fb e = absurd (differ 2 1 refl form)
+one_data (Field f) (Field g) x y form fa fb e =
     let high : ℕ → ℕ = λ n. n / 256 % 256 in
     let low : ℕ → ℕ = λ n. n % 256 in
     let first = one_octet (high f) (high g) (digits_of (low f) x) (digits_of (low g) y) (omega arith) (omega arith)
     (append_cancel_left (codes " with data ") (digits_of (high f) (digits_of (low f) x)) (digits_of (high g) (digits_of (low g) y)) e) in
     let second = one_octet (low f) (low g) x y (omega arith) (omega arith) first.1 in
-    (ap variants.Field (let h = first.0 in let l = second.0 in omega (arith, h, l, fa, fb)), second.1)
+    (ap Field (let h = first.0 in let l = second.0 in omega (arith, h, l, fa, fb)), second.1)
 
 -- ---- an error
 

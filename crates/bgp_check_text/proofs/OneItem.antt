@@ -1,7 +1,7 @@
 -- Two items of a reason have two texts.
-use Rattle.std.proofs.Common.{◌≡◌, ◌∙◌, ◌<◌, ◌^◌, ◌+◌, ◌/◌, ◌==◌, ◌&&◌, ◌++◌, ℕ, Bool, true, false, List, [], ◌∷◌, Option, Some, None, if◌then◌else◌, codes, refl, sym, ap, lit<, slice_index, length, append-nil, inl, inr}
+use Rattle.std.proofs.Common.{◌≡◌, ◌∙◌, ◌<◌, ◌^◌, ◌+◌, ◌/◌, ◌==◌, ◌++◌, ℕ, Bool, true, false, List, [], ◌∷◌, Option, None, if◌then◌else◌, codes, refl, sym, ap, lit<, slice_index, length, append-nil, inl, inr}
 use Rattle.std.specs.List.{AllByRecursion}
-use Rattle.std.proofs.lemmas.Bool.{and_parts, both_ways, cases_Bool, eq-eqb, eqb-true}
+use Rattle.std.proofs.lemmas.Bool.{both_ways, cases_Bool, eq-eqb, eqb-true}
 use mathlib.Core.List.{append_cancel_left, append_cancel_right}
 use Rattle.bgp_clock.specs.Civil.{month_of, year_of}
 use Rattle.bgp_clock.specs.When.{clock_text, date_text, four_digits, second_in, short_text, time_text, two_digits, when_text}
@@ -10,18 +10,17 @@ use Rattle.bgp_machine.specs.declared.fsm.Fsm.TheVariants as states
 use Rattle.bgp_machine.specs.State.{number_of}
 use Rattle.bgp_names.proofs.Distinct.{head_of}
 use Rattle.bgp_update.specs.declared.subcodes.Subcodes.{Subcodes}
-use Rattle.bgp_why.specs.declared.errors.ErrorCode.{ErrorCode}
 use Rattle.bgp_why.specs.declared.items.Item.{Item}
 use Rattle.bgp_why.specs.declared.items.Item.TheVariants as items
-use Rattle.bgp_why.specs.Errors.{any_of, error_of, errors_in, errors_text, fsm_errors, has_all, header_errors, open_errors, update_errors, update_errors_text}
+use Rattle.bgp_why.specs.Errors.{any_of, has_all, update_errors}
 use Rattle.bgp_why.specs.Items.{change_text, due_text, from_text, item_text, way_text}
 use Rattle.bgp_why_parts.specs.Codes.{code_text}
 use Rattle.bgp_check_text.specs.ItemTexts.{HasFields, ItemsDiffer}
-use Rattle.bgp_check_text.proofs.ErrorSets.{fsm_back, fsm_from, fsm_known, header_back, header_from, header_known, known_error, open_back, open_from, open_known, update_back, update_from, update_known, update_made}
-use Rattle.bgp_check_text.proofs.ErrorTexts.{IsKnown, cease, every, not_cease, not_every, one_errors, or, sent}
+use Rattle.bgp_check_text.proofs.ErrorSets.{error_of, fsm_back, fsm_from, fsm_known, fsm_linked, fsm_list, header_back, header_from, header_known, header_linked, header_list, known_error, open_back, open_from, open_known, open_linked, open_list, update_back, update_from, update_known, update_linked, update_list, update_made}
+use Rattle.bgp_check_text.proofs.ErrorTexts.{ErrorCode, IsKnown, cease, errors_text, every, not_cease, not_every, one_errors, or, sent}
 
 differ : (m n : ℕ) → (m == n) ≡ false → m ≡ n → ⊥
-differ m n no is = both_ways (m == n) no (eq-eqb m n is)
+differ m n isnt is = both_ways (m == n) isnt (eq-eqb m n is)
 
 abbrev octet_at : ℕ → List ℕ → ℕ
 octet_at i text = slice_index text i
@@ -244,8 +243,8 @@ module _ (reads : ReadsBack) (first : ℕ) where
   begins_at from = codes " at " ++ (short_text first from None ++ codes " or later")
 
   section_not_from : (s from : ℕ) → (s == 53) ≡ false → tail_text (Section s) ≡ tail_text (From from) → ⊥
-  section_not_from s from no e = elim (cases_Bool (from == 0)) [
-    | inl due ↦ both_ways (s == 53) no (eq-eqb s 53 (ap (octet_at 13) (rw due at e)))
+  section_not_from s from isnt e = elim (cases_Bool (from == 0)) [
+    | inl due ↦ both_ways (s == 53) isnt (eq-eqb s 53 (ap (octet_at 13) (rw due at e)))
     | inr timed ↦ differ 91 97 refl (ap (octet_at 1) (rw timed at e))
   ]
 
@@ -324,19 +323,19 @@ module _ (reads : ReadsBack) (first : ℕ) where
 
   abbrev update_shape : Bool → Subcodes → Shape
   update_shape true errors = Every
-  update_shape false errors = Noted (errors_in (update_errors errors)) (Section 51)
+  update_shape false errors = Noted (update_list errors) (Section 51)
 
   abbrev shape : Item → Shape
   shape items.ReceivedMessage = Said Heard
   shape items.SentOpen = Said Opened
   shape items.SentKeepalive = Said Kept
   shape items.SentUpdate = Said Updated
-  shape (items.HeaderErrors errors) = Noted (errors_in (header_errors errors)) (Section 49)
-  shape (items.OpenErrors errors) = Noted (errors_in (open_errors errors)) (Section 50)
+  shape (items.HeaderErrors errors) = Noted (header_list errors) (Section 49)
+  shape (items.OpenErrors errors) = Noted (open_list errors) (Section 50)
   shape (items.UpdateErrors errors) = update_shape (has_all errors) errors
   shape (items.HoldTimerExpired from) = Noted (error_of 4 0 ∷ []) (From from)
   shape items.SendHoldTimerExpired = Noted (error_of 8 0 ∷ []) Later
-  shape (items.StateErrors errors) = Noted (errors_in (fsm_errors errors)) (Section 54)
+  shape (items.StateErrors errors) = Noted (fsm_list errors) (Section 54)
   shape items.Cease = Ceased
   shape (items.Change old new) = Said (Moved old new)
 
@@ -346,7 +345,7 @@ module _ (reads : ReadsBack) (first : ℕ) where
   update_shaped : (every : Bool) (errors : Subcodes)
       → codes "NOTIFICATION " ++ (update_text_by every errors ++ codes " sent [RFC 4271 6.3]") ≡ shape_text (update_shape every errors)
   update_shaped true errors = refl
-  update_shaped false errors = refl
+  update_shaped false errors = ap (λ (t : List ℕ). codes "NOTIFICATION " ++ (t ++ codes " sent [RFC 4271 6.3]")) (update_linked errors)
 
   alone : (c : List ℕ) → c ≡ (c ++ []) ++ []
   alone c = sym (append-nil c) ∙ sym (append-nil (c ++ []))
@@ -357,13 +356,13 @@ module _ (reads : ReadsBack) (first : ℕ) where
   text_of items.SentOpen = refl
   text_of items.SentKeepalive = refl
   text_of items.SentUpdate = refl
-  text_of (items.HeaderErrors errors) = refl
-  text_of (items.OpenErrors errors) = refl
+  text_of (items.HeaderErrors errors) = ap (λ (t : List ℕ). codes "NOTIFICATION " ++ (t ++ codes " sent [RFC 4271 6.1]")) (header_linked errors)
+  text_of (items.OpenErrors errors) = ap (λ (t : List ℕ). codes "NOTIFICATION " ++ (t ++ codes " sent [RFC 4271 6.2]")) (open_linked errors)
   text_of (items.UpdateErrors errors) = update_shaped (has_all errors) errors
   text_of (items.HoldTimerExpired from) =
       ap (λ (c : List ℕ). codes "NOTIFICATION " ++ (c ++ (codes " sent" ++ (from_text first from ++ codes " [RFC 4271 6.5]")))) (alone (code_text 4 0))
   text_of items.SendHoldTimerExpired = ap (λ (c : List ℕ). codes "NOTIFICATION " ++ (c ++ codes " sent [RFC 9687 4]")) (alone (code_text 8 0))
-  text_of (items.StateErrors errors) = refl
+  text_of (items.StateErrors errors) = ap (λ (t : List ℕ). codes "NOTIFICATION " ++ (t ++ codes " sent [RFC 4271 6.6]")) (fsm_linked errors)
   text_of items.Cease = refl
   text_of (items.Change old new) = refl
 
@@ -390,7 +389,7 @@ module _ (reads : ReadsBack) (first : ℕ) where
   back (Noted xs Later) = items.SendHoldTimerExpired
   back (Noted xs (From from)) = items.HoldTimerExpired from
 
-  every_by : (a b c d e f g h i j k : Bool) → (a && (b && (c && (d && (e && (f && (g && (h && (i && (j && k)))))))))) ≡ true
+  every_by : (a b c d e f g h i j k : Bool) → has_all (update_made a b c d e f g h i j k) ≡ true
       → all_updates ≡ update_made a b c d e f g h i j k
   every_by true true true true true true true true true true true is = refl
   every_by false b c d e f g h i j k is = absurd (let k : ⊥ = cc in k)

@@ -1,4 +1,4 @@
-use Rattle.std.proofs.Common.{◌≡◌, ◌-◌, ◌<◌, ℕ, arith, drop, length, map, subst, suc, sym}
+use Rattle.std.proofs.Common.{◌≡◌, ◌-◌, ℕ, arith, drop, map, subst, suc, sym}
 use Rattle.std.specs.List.{AllByRecursion}
 use Rattle.mrt.specs.Reader.{shown_of}
 use Rattle.bgp_check_text.specs.Refused.{HearsNothing}
