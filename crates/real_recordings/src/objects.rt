@@ -39,10 +39,10 @@ fn is_so(object: &Value<'_>, key: &str) -> bool {
 }
 
 /// Returns the values of a list.
-fn values_of<'v, 'a>(value: Option<&'v Value<'a>>) -> &'v [Value<'a>] {
+fn values_of<'v, 'a>(value: Option<&'v Value<'a>>) -> Option<&'v [Value<'a>]> {
     match value {
-        Some(Value::Array(values)) => values.as_slice(),
-        _ => &[],
+        Some(Value::Array(values)) => Some(values.as_slice()),
+        _ => None,
     }
 }
 
@@ -123,9 +123,9 @@ fn put_verdict(text: &mut String, object: &Value<'_>) -> Result<(), AllocError> 
 fn put_end(text: &mut String, object: &Value<'_>) -> Result<(), AllocError> {
     write!(text, "end {} disabled ", text_at(object, "state"))?;
     match values_of(object.get("disabled")) {
-        [] => text.push_str("-"),
-        [one] => text.push_str(one.as_str().unwrap_or("")),
-        _ => text.push_str("v4,v6"),
+        None | Some([]) => text.push_str("-"),
+        Some([one]) => text.push_str(one.as_str().unwrap_or("")),
+        Some(_) => text.push_str("v4,v6"),
     }
 }
 
@@ -159,7 +159,9 @@ fn put_set(text: &mut String, numbers: &[Value<'_>]) -> Result<(), AllocError> {
 
 /// Puts a word, and texts behind it, if there are some.
 fn put_list(text: &mut String, word: &str, object: &Value<'_>) -> Result<(), AllocError> {
-    let values = values_of(object.get(word));
+    let Some(values) = values_of(object.get(word)) else {
+        return Ok(());
+    };
     if values.is_empty() {
         return Ok(());
     }
@@ -175,14 +177,16 @@ fn put_path(text: &mut String, object: &Value<'_>) -> Result<(), AllocError> {
     write!(text, "route {}", text_at(object, "prefix"))?;
     put_number_at(text, "#", object, "path_id")?;
     let mut before = " via ";
-    for hop in values_of(object.get("next_hop")) {
-        write!(text, "{before}{}", hop.as_str().unwrap_or(""))?;
-        before = ",";
+    if let Some(hops) = values_of(object.get("next_hop")) {
+        for hop in hops {
+            write!(text, "{before}{}", hop.as_str().unwrap_or(""))?;
+            before = ",";
+        }
     }
     text.push_str(" path ")?;
     match values_of(object.get("path")) {
-        [] => text.push_str("-"),
-        segments => put_numbers(text, segments, " "),
+        None | Some([]) => text.push_str("-"),
+        Some(segments) => put_numbers(text, segments, " "),
     }
 }
 
