@@ -2,7 +2,6 @@
 
 use crate::answer::answer_to;
 use crate::file::File;
-use crate::objects::compare_objects;
 use crate::repeated::repeated;
 use hex::FromHexError;
 use std::alloc::{AllocError, Global};
@@ -95,26 +94,11 @@ pub(crate) fn compare<R: Print + AllocGlobal>(rt: &R, case: &Case<'_>) -> io::Re
     if !is_so(rt, case, &file)? || !is_so(rt, case, &File::read_by_octets(case.file))? {
         return Ok(None);
     }
-    if !is_told_in_json(rt, case, &file)? {
-        return Ok(None);
-    }
     let count = judged_again(rt.alloc(), case, &file)?;
     if count.is_none() {
         println!(rt; "case {} is judged otherwise", case.name)?;
     }
     Ok(count)
-}
-
-/// Whether a verdict in JSON tells what is printed without it, if it isn't one.
-fn is_told_in_json<R: Print + AllocGlobal>(
-    rt: &R,
-    case: &Case<'_>,
-    file: &File<'_>,
-) -> io::Result<bool> {
-    if !case.words.starts_with("judge") || case.words.contains("--json") {
-        return Ok(true);
-    }
-    compare_objects(rt, case.words, file)
 }
 
 /// How many verdicts of `bgp check` are those of `bgp judge` with the options that `--settings`

@@ -44,7 +44,6 @@ mod examples;
 mod explained;
 mod file;
 mod lacking;
-mod objects;
 mod repeated;
 mod runs;
 mod session;
