@@ -88,11 +88,18 @@ fn is_of_captures(line: &str) -> bool {
         || line.starts_with(">   note: a sent message may be missing ")
 }
 
+/// Whether a line is of recordings alone: a note, and what could have come in another order.
+fn is_of_recordings(line: &str) -> bool {
+    line.starts_with("note ")
+        || line.starts_with(">   or: in another order, ")
+        || line.starts_with(">   or: perhaps more in another order ")
+}
+
 /// Whether a connection's answer is its capture's, but for packets and times, for what is told of a
 /// recording besides, and for what is of captures alone.
 fn is_same(answer: &str, known: &str) -> bool {
     let mut known = known.lines().filter(|line| !is_of_captures(line));
-    for line in answer.lines().filter(|line| !line.starts_with("note ")) {
+    for line in answer.lines().filter(|line| !is_of_recordings(line)) {
         match known.next() {
             Some(other) if is_same_line(line, other) => {}
             _ => return false,
