@@ -1,15 +1,13 @@
 -- Other rules of framing make the same records.
-use Rattle.std.proofs.Common.{◌++◌, ℕ, List, [], ◌∷◌, map, subst}
+use Rattle.std.proofs.Common.{◌++◌, List, [], ◌∷◌, inl, inr, map, subst}
 use Rattle.std.specs.List.{AllByRecursion}
-use Rattle.streams.specs.declared.connection.Connection.{Connection}
-use Rattle.bgp_recording.specs.Allowed.{Ended, Item, Received, Sent, received_in, sent_in}
+use Rattle.bgp_recording.specs.Allowed.{Ended, Received, Sent, received_in, sent_in}
 use Rattle.bgp_recording.specs.Captured.{records_of}
 use Rattle.bgp_recording.specs.Changes.{are_left, is_answered_before_open, just_received, just_sent, led_by_end, led_by_left, led_by_received, led_by_sent, opened_state, state_then}
-use Rattle.bgp_recording.specs.Recorded.{IsRecordedInOrder}
 use Rattle.bgp_recording.specs.Moments.{end_moment, moment_in}
 use Rattle.bgp_recording.specs.Tells.{Event, Numbered, Passed, change, items_in, numbered_in, numbered_of}
 use Rattle.bgp_recording.specs.declared.entry.Entry.{Entry}
-use Rattle.bgp_recording.specs.declared.framing.Framings.{Framings}
+use Rattle.bgp_recording.specs.declared.framing.Framing.{Framing}
 use Rattle.bgp_recording.specs.declared.framing.Unshown.{Unshown}
 use Rattle.bgp_recording.specs.declared.message.Message.{Message}
 use Rattle.bgp_recording.specs.declared.standing.Before.{Before}
@@ -47,6 +45,13 @@ short_in state before (Passed second (Ended e) ∷ later) all =
     let left = led_by_left state (are_left (received_in (items_in later))) in
     short_in (state_then ended left) Other later
     (all_behind (change (end_moment e) second ended left) _ (all_behind (change (end_moment e) second state (led_by_end state)) _ all))
+
+-- what makes the messages short is known by something else
+pub found_by : {one other : Type 0} (old new : Framing) (unshown : Unshown) → (one → other)
+    → FindsTheSame one old new unshown → FindsTheSame other old new unshown
+found_by old new unshown is (inl same) = inl same
+found_by old new unshown is (inr (inl limit, refresh, none)) = inr (inl limit, refresh, none)
+found_by old new unshown is (inr (inr (long, short, few), refresh, none)) = inr (inr (long, short, is few), refresh, none)
 
 pub framed_alike : RecordsAreFramedAlike
 framed_alike old new within connection entries received sent finds also recorded =
