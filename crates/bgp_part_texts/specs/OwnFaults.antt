@@ -1,4 +1,4 @@
--- Faults of an OPEN, for each of which no configuration has it as its own, have different texts.
+-- Faults for each of which an OPEN is no configuration's own have different texts.
 use Rattle.std.specs.Prelude.{◌≡◌, ◌≢◌, ◌<◌, ◌^◌, ◌⊎◌, ℕ, IfSome, List}
 use Rattle.bgp_wire.specs.AsNumber.{two_octet_as}
 use Rattle.bgp_why_parts.specs.declared.own_faults.OwnFaults.{OwnFaults}
@@ -16,4 +16,5 @@ pub record AreFaults (faults : OwnFaults) : Type 0 where
   pub hold : IfSome faults.hold (λ hold. hold < 2 ^ 16)
 
 abbrev pub OwnFaultsDiffer : Type 0
-OwnFaultsDiffer = (before : List ℕ) → TextsDiffer AreFaults (own_faults_text before) (λ faults. faults)
+OwnFaultsDiffer =
+    (before : List ℕ) → TextsDiffer AreFaults (own_faults_text before) (λ faults. faults)

@@ -11,8 +11,8 @@ use bgp_why_parts::{each_code_has_its_text, each_set_of_families_has_its_text};
 
 /// States that two lists of parts of an UPDATE have different texts, unless they differ only in
 /// what their faults aren't about: the text of a fault has the attribute's type, and its flags or
-/// its value only if these are wrong. So it is also of what is shown of two texts, if one of them
-/// isn't too long to be shown whole.
+/// its value only if these are wrong. The same holds for what is shown of two texts, if one of them
+/// is short enough to be shown whole.
 pub fn each_update_part_has_its_text()
     ensures whole { UpdatePartsDiffer }
     ensures shown { ShownUpdatePartsDiffer }
@@ -28,7 +28,8 @@ pub fn each_open_part_has_its_text()
 }
 
 /// States that two lists of parts of a NOTIFICATION of one error code have different texts, unless
-/// they differ only in the second at which it came too early: that stands in the line of the record.
+/// they differ only in the second at which it came too early. That second stands in the line of the
+/// record, and the code in the line of the item.
 pub fn each_notification_part_has_its_text()
     ensures whole { NotificationPartsDiffer }
     ensures shown { ShownNotificationPartsDiffer }
@@ -36,8 +37,8 @@ pub fn each_notification_part_has_its_text()
     each_code_has_its_text();
 }
 
-/// States that two lists of faults of an OPEN, for each of which no configuration has it as its own,
-/// have different texts.
+/// States that two lists of faults have different texts, for each of which an OPEN is no
+/// configuration's own.
 pub fn each_own_fault_has_its_text()
     ensures { OwnFaultsDiffer }
 {}
