@@ -1,0 +1,13 @@
+pub mod Lookups
+pub mod Lists
+pub mod Texts
+pub mod Tables
+pub mod Fronts
+pub mod Pieces
+pub mod Spellings
+pub mod Items
+pub mod Capabilities
+pub mod Opens
+pub mod Places
+pub mod Updates
+pub mod Messages

@@ -1,0 +1,27 @@
+-- What the laws say: objects that are equal are of the same octets.
+use Rattle.std.specs.Prelude.{◌≡◌, ◌<◌, ℕ, List}
+use Rattle.bgp_open.specs.Triplet.{Triplet}
+use Rattle.bgp_wire.specs.Octets.{AreOctets}
+use Rattle.bgp_text.specs.Message.{Message, Says}
+use Rattle.bgp_values.specs.declared.opens.Reading.{Reading}
+use Rattle.bgp_json_values.specs.CapabilityJson.{capability_json}
+use Rattle.bgp_json.specs.MessageJson.{message_json}
+use Rattle.bgp_json.specs.declared.place.Place.{Place}
+
+-- a capability has a code and a value of octets
+pub record IsTriplet (c : Triplet) : Type 0 where
+  pub code : c.code < 256
+  pub value : AreOctets c.value
+
+-- two capabilities with one object are one
+abbrev pub CapabilitiesDiffer : Type 0
+CapabilitiesDiffer = (c d : Triplet) → IsTriplet c → IsTriplet d → capability_json c ≡ capability_json d → c ≡ d
+
+-- octets of which one object tells are the same, however they are read and wherever they stand
+abbrev pub MessagesDiffer : Type 0
+MessagesDiffer =
+    (reading other : Reading) (place also : Place) (octets others : List ℕ)
+    (message another : Message) → AreOctets octets → AreOctets others
+    → Says reading.form octets message → Says other.form others another
+    → message_json reading place octets message ≡ message_json other also others another
+    → octets ≡ others
