@@ -8,6 +8,12 @@ pub mod Spellings
 pub mod Items
 pub mod Capabilities
 pub mod Opens
+pub mod Paths
+pub mod Values
+pub mod Destinations
+pub mod Hops
+pub mod Routes
+pub mod Attributes
 pub mod Places
 pub mod Updates
 pub mod Messages
