@@ -1,6 +1,6 @@
 -- Path attributes whose objects are equal are equal.
-use Rattle.std.proofs.Common.{◌≡◌, ◌∙◌, ◌++◌, ◌||◌, ◌==◌, ◌<◌, ◌^◌, ℕ, Bool, true, false, List, [], ◌∷◌, Option, Some, None, bytes_eq, codes, drop, if◌then◌else◌, refl, sym, ap, subst, arith, inl, inr}
-use Rattle.std.proofs.lemmas.Bool.{both_ways, cases_Bool}
+use Rattle.std.proofs.Common.{◌≡◌, ◌∙◌, ◌++◌, ◌||◌, ◌==◌, ℕ, Bool, true, false, List, [], ◌∷◌, Option, Some, None, bytes_eq, codes, drop, if◌then◌else◌, refl, sym, ap, subst, arith, inl, inr}
+use Rattle.std.proofs.lemmas.Bool.{cases_Bool}
 use Rattle.json.specs.Json.{Json}
 use Rattle.bgp_wire.specs.Octets.{AreOctets}
 use Rattle.bgp_attr.specs.Field.{Attribute}
@@ -9,14 +9,14 @@ use Rattle.bgp_open.specs.declared.route_form.RouteForm.{RouteForm}
 use Rattle.bgp_values.specs.AttributeValue.{AttributeValue, attribute_value}
 use Rattle.bgp_values.specs.RoutesValue.{reach_value, unreach_value}
 use Rattle.bgp_values.specs.declared.opens.Reading.{Reading}
-use Rattle.bgp_json_values.specs.AttributeJson.{attribute_json, attribute_members, attribute_value_json, plain_members, said_members, spelled_attribute, width_member, width_members, width_of_type}
+use Rattle.bgp_json_values.specs.AttributeJson.{attribute_json, attribute_members, attribute_value_json, plain_members, said_members, spelled_attribute, width_members, width_of_type}
 use Rattle.bgp_json_values.specs.Objects.{number_of}
 use Rattle.bgp_json_values.specs.Octets.{value_or_octets}
 use Rattle.bgp_json_values.specs.RoutesJson.{routes_json, spelled_routes}
 use Rattle.bgp_json_laws.specs.Laws.{IsAttribute}
 use Rattle.bgp_json_laws.proofs.Lookups.{of_key, same_members}
 use Rattle.bgp_json_laws.proofs.Routes.{same_reach, same_unreach}
-use Rattle.bgp_json_laws.proofs.Spellings.{same_item, unless}
+use Rattle.bgp_json_laws.proofs.Spellings.{same_item}
 use Rattle.bgp_json_laws.proofs.Texts.{same_number_json}
 use Rattle.bgp_json_laws.proofs.Values.{same_value}
 

@@ -1,9 +1,8 @@
 -- Capabilities whose objects are equal are equal.
-use Rattle.std.proofs.Common.{◌≡◌, ◌∙◌, ◌++◌, ◌%◌, ◌&&◌, ◌==◌, ◌<◌, ◌≤◌, ◌^◌, ℕ, zero, suc, Bool, true, false, List, [], ◌∷◌, All, Option, Some, None, bit_or, codes, drop, get_or, if◌then◌else◌, length, nat_le, slice_index, refl, sym, ap, ap₂, subst, arith}
-use Rattle.std.specs.List.{flat_map, list_all}
+use Rattle.std.proofs.Common.{◌≡◌, ◌∙◌, ◌++◌, ◌%◌, ◌&&◌, ◌==◌, ℕ, Bool, true, false, List, [], ◌∷◌, Option, Some, None, bit_or, codes, drop, if◌then◌else◌, length, nat_le, slice_index, refl, sym, ap, ap₂, subst, arith}
 use Rattle.std.proofs.lemmas.Bool.{and_parts, leb-true}
 use Rattle.std.proofs.lemmas.Option.{cond_some, none-some}
-use Rattle.std.proofs.lemmas.List.Elements.{All-cons, All-drop, All-head, All-nil, All-tail}
+use Rattle.std.proofs.lemmas.List.Elements.{All-drop}
 use Rattle.byteorder.specs.Endian.{big_bytes, big_number}
 use Rattle.json.specs.Json.{Json}
 use Rattle.bgp_wire.specs.Octets.{AreOctets}
@@ -20,7 +19,7 @@ use Rattle.bgp_json_laws.proofs.Lookups.{of_key, same_members, text_of, truth_of
 use Rattle.bgp_json_laws.proofs.Pieces.{IsPiece, IsTested, each_piece, each_tested}
 use Rattle.bgp_json_laws.proofs.Spellings.{same_item}
 use Rattle.bgp_json_laws.proofs.Tables.{same_role}
-use Rattle.bgp_json_laws.proofs.Texts.{IsOctet, bytes_of, number_fits, same_number_json}
+use Rattle.bgp_json_laws.proofs.Texts.{IsOctet, bytes_of, same_number_json}
 
 -- values that this reads spell the same octets if their JSON is equal
 abbrev Alike : (List ℕ → Option CapabilityValue) → Type 0

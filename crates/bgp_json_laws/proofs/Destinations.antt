@@ -1,10 +1,8 @@
 -- Lists of destinations whose JSON is equal are equal.
-use Rattle.std.proofs.Common.{◌≡◌, ◌∙◌, ◌++◌, ◌+◌, ◌<◌, ◌^◌, ℕ, Bool, true, false, List, [], ◌∷◌, All, Option, Some, None, codes, drop, if◌then◌else◌, map, refl, sym, ap, ap₂, subst, arith}
+use Rattle.std.proofs.Common.{◌≡◌, ◌∙◌, ◌<◌, ◌^◌, ℕ, Bool, true, false, List, [], ◌∷◌, All, Option, Some, None, drop, map, refl, sym, ap, ap₂, subst, arith}
 use Rattle.std.proofs.lemmas.List.Elements.{All-cons, All-drop, All-head, All-nil, All-tail}
-use Rattle.byteorder.specs.Endian.{big_number}
-use Rattle.json.specs.Json.{Json}
 use Rattle.bgp_prefix.specs.declared.family.Family.{Family}
-use Rattle.bgp_prefix.specs.Prefix.{IsPrefix, PrefixBits}
+use Rattle.bgp_prefix.specs.Prefix.{IsPrefix}
 use Rattle.bgp_wire.specs.Octets.{AreOctets}
 use Rattle.bgp_update.specs.Destinations.{AreDestinations, BeginsWithDestination, path_at}
 use Rattle.bgp_update.specs.declared.destination.Destination.{Destination}

@@ -1,25 +1,21 @@
 -- Items whose JSON is equal are equal; or the octets that they spell are.
-use Rattle.std.proofs.Common.{◌≡◌, ◌∙◌, ◌++◌, ◌+◌, ◌%◌, ◌<◌, ◌≤◌, ◌^◌, ◌==◌, ◌&&◌, ℕ, zero, suc, Bool, true, false, not, List, [], ◌∷◌, Some, None, length, get_or, take, drop, refl, sym, ap, ap₂, codes, slice_index, arith}
+use Rattle.std.proofs.Common.{◌≡◌, ◌∙◌, ◌++◌, ◌+◌, ◌%◌, ◌<◌, ◌≤◌, ◌^◌, ◌==◌, ℕ, Bool, true, not, List, [], ◌∷◌, get_or, take, drop, refl, sym, ap, ap₂, codes, slice_index, arith}
 use Rattle.std.specs.Fmt.{decimal}
 use Rattle.std.proofs.lemmas.Bool.{and_from, and_parts, leb-true, ne_eqb, not_from_false}
 use Rattle.std.proofs.lemmas.Fmt.{decimal_by_steps, decimal_injective}
-use Rattle.std.proofs.lemmas.List.{get_or-take, length-take-le, length-drop}
+use Rattle.std.proofs.lemmas.List.{get_or-take, length-take-le}
 use Rattle.std.proofs.lemmas.List.Elements.{All-drop, All-take}
 use mathlib.Core.List.{append_cancel_left}
 use Rattle.byteorder.specs.Endian.{big_number}
 use Rattle.byteorder.specs.Numbers.{big_from-take}
-use Rattle.json.specs.Json.{Json, string}
-use Rattle.bgp_prefix.specs.declared.address.Address.{Address}
-use Rattle.bgp_prefix.specs.declared.address.Address.TheVariants.{V4, V6}
+use Rattle.json.specs.Json.{Json}
 use Rattle.bgp_wire.specs.Octets.{AreOctets}
 use Rattle.bgp_names.proofs.Distinct.{lacks, lacks_both, one_front}
-use Rattle.bgp_names.specs.Capabilities.{way_names}
-use Rattle.bgp_names.specs.Naming.{name_in, name_or}
 use Rattle.bgp_values.specs.CapabilityValue.{has_way}
 use Rattle.bgp_values.specs.Items.{has_bits}
 use Rattle.bgp_values.specs.declared.items.Item.TheVariants.{HopFamily, RestartFamily, PathFamily, LongLivedFamily, AsNumber2, AsNumber4, Community, ExtendedCommunity, LargeCommunity, Cluster}
 use Rattle.bgp_json_values.specs.CapabilityJson.{flag, spelled_family}
-use Rattle.bgp_json_values.specs.ItemJson.{family_at, family_members, item_json, preserved_member, way_json}
+use Rattle.bgp_json_values.specs.ItemJson.{family_members, item_json}
 use Rattle.bgp_json_values.specs.Objects.{number_of}
 use Rattle.bgp_json_laws.proofs.Fronts.{Pair, at_end, from_number, from_octet}
 use Rattle.bgp_json_laws.proofs.Lookups.{of_key, text_of, truth_of, value_at}

@@ -1,5 +1,5 @@
 -- What equal objects, arrays and members have in common.
-use Rattle.std.proofs.Common.{◌≡◌, ◌∙◌, ◌++◌, ℕ, Bool, true, false, List, [], ◌∷◌, Option, None, Some, refl, sym, ap, bytes_eq, if◌then◌else◌, map, unwrap_or}
+use Rattle.std.proofs.Common.{◌≡◌, ◌∙◌, ℕ, Bool, false, List, [], ◌∷◌, Option, None, Some, refl, sym, ap, bytes_eq, if◌then◌else◌, map, unwrap_or}
 use Rattle.std.proofs.lemmas.Option.{none-some}
 use Rattle.json.specs.Json.{Json, Items, Members, null, boolean, number, string, array, object, no_items, item, no_members, member}
 use Rattle.bgp_json_values.specs.Objects.{array_of, in_array, in_object, object_of}

@@ -1,8 +1,8 @@
 -- Messages whose objects are equal have the same octets.
-use Rattle.std.proofs.Common.{◌≡◌, ◌∙◌, ◌++◌, ◌<◌, ◌^◌, ℕ, Bool, true, false, List, [], ◌∷◌, All, bytes_eq, codes, drop, refl, sym, ap, ap₂, subst, arith}
+use Rattle.std.proofs.Common.{◌≡◌, ◌∙◌, ◌++◌, ◌<◌, ℕ, true, false, List, [], ◌∷◌, bytes_eq, codes, refl, sym, ap, ap₂, subst, arith}
 use Rattle.std.proofs.lemmas.List.Elements.{All-drop, All-head, All-tail}
 use Rattle.json.specs.Json.{Json}
-use Rattle.bgp_wire.specs.Message.{IsKeepalive, body_of, message_octets}
+use Rattle.bgp_wire.specs.Message.{IsKeepalive, message_octets}
 use Rattle.bgp_wire.specs.Octets.{AreOctets}
 use Rattle.bgp_wire.proofs.HeaderAndBody.{message_is_header_and_body}
 use Rattle.bgp_open.specs.Notification.{IsNotification}
@@ -18,7 +18,7 @@ use Rattle.bgp_json.specs.Object.{typed}
 use Rattle.bgp_json.specs.Place.{place_members}
 use Rattle.bgp_json.specs.declared.place.Place.{Place}
 use Rattle.bgp_json_laws.proofs.Lookups.{of_key}
-use Rattle.bgp_json_laws.proofs.Opens.{members_behind, same_open}
+use Rattle.bgp_json_laws.proofs.Opens.{same_open}
 use Rattle.bgp_json_laws.proofs.Places.{behind_place, differ, same_typed}
 use Rattle.bgp_json_laws.proofs.Texts.{IsOctet, same_number_json, same_octets}
 use Rattle.bgp_json_laws.proofs.Updates.{same_update}

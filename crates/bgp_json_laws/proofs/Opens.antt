@@ -1,22 +1,18 @@
 -- OPENs whose objects are equal have the same octets.
-use Rattle.std.proofs.Common.{◌≡◌, ◌∙◌, ◌++◌, ◌==◌, ◌<◌, ◌^◌, ℕ, zero, suc, Bool, true, false, List, [], ◌∷◌, All, bytes_eq, codes, drop, if◌then◌else◌, length, nat_le, take, refl, sym, ap, ap₂, arith, inl, inr}
+use Rattle.std.proofs.Common.{◌≡◌, ◌∙◌, ◌++◌, ◌==◌, ◌<◌, ◌^◌, ℕ, zero, suc, List, [], ◌∷◌, All, codes, drop, length, nat_le, take, refl, sym, ap, arith, inl, inr}
 use Rattle.std.specs.List.{flat_map}
 use Rattle.std.proofs.lemmas.Bool.{cases_Bool}
 use Rattle.std.proofs.lemmas.Slice.Eq.{bytes_eq-Decides}
 use Rattle.std.proofs.lemmas.List.Elements.{All-append, All-cons, All-drop, All-head, All-nil, All-tail, All-take}
-use Rattle.byteorder.specs.Endian.{big_number}
 use Rattle.json.specs.Json.{Json}
-use Rattle.bgp_prefix.specs.declared.address.Address.TheVariants.{V4}
 use Rattle.bgp_wire.specs.Message.{body_of, message_octets}
 use Rattle.bgp_wire.specs.Octets.{AreOctets}
-use Rattle.bgp_open.specs.Open.{OpenFields, capabilities_in, capabilities_of, fixed_fields_of, hold_of, id_of, my_as_of, open_of, parameters_of}
+use Rattle.bgp_open.specs.Open.{capabilities_in, capabilities_of, fixed_fields_of, hold_of, id_of, my_as_of, open_of, parameters_of}
 use Rattle.bgp_open.specs.OpenFault.{IsWellFormed}
 use Rattle.bgp_open.specs.Triplet.{Triplet, triplets_in, triplets_octets, triplets_of}
 use Rattle.bgp_open.specs.Written.{fixed_octets, parameters_with}
 use Rattle.bgp_open.proofs.OpenParts.{readable_is_its_parts}
 use Rattle.bgp_json_values.specs.CapabilityJson.{capability_json}
-use Rattle.bgp_json_values.specs.Objects.{number_of}
-use Rattle.bgp_json_values.specs.Texts.{address_json}
 use Rattle.bgp_json.specs.MessageJson.{are_parameters_spelled, octets_unless, open_members}
 use Rattle.bgp_json_laws.specs.Laws.{IsTriplet}
 use Rattle.bgp_json_laws.proofs.Capabilities.{same_capability}

@@ -1,5 +1,5 @@
 -- Segments of a path: those whose JSON is equal spell the same octets.
-use Rattle.std.proofs.Common.{◌≡◌, ◌∙◌, ◌++◌, ◌+◌, ◌*◌, ◌<◌, ◌≤◌, ◌^◌, ℕ, zero, suc, Bool, true, false, List, [], ◌∷◌, All, codes, drop, get_or, length, slice_index, take, refl, sym, ap, ap₂, arith, inl, inr}
+use Rattle.std.proofs.Common.{◌≡◌, ◌∙◌, ◌++◌, ◌+◌, ◌*◌, ◌<◌, ◌≤◌, ℕ, zero, suc, Bool, true, false, List, [], ◌∷◌, All, codes, drop, length, slice_index, take, refl, sym, ap, ap₂, arith, inl, inr}
 use Rattle.std.specs.List.{flat_map}
 use Rattle.std.proofs.lemmas.Bool.{cases_Bool}
 use Rattle.std.proofs.lemmas.List.{length-drop, length-take-le, nil_from_length, take-append-drop}
@@ -13,8 +13,8 @@ use Rattle.bgp_values.specs.Items.{items_of}
 use Rattle.bgp_values.specs.PathSegments.{segments_in, segments_of}
 use Rattle.bgp_values.specs.Pieces.{pieces_of}
 use Rattle.bgp_values.specs.declared.items.Item.TheVariants.{AsNumber2, AsNumber4}
-use Rattle.bgp_values.proofs.PieceLists.{no_piece, one_piece}
-use Rattle.bgp_json_values.specs.AttributeJson.{as_item, segment_json}
+use Rattle.bgp_values.proofs.PieceLists.{one_piece}
+use Rattle.bgp_json_values.specs.AttributeJson.{segment_json}
 use Rattle.bgp_json_values.specs.CapabilityJson.{itself}
 use Rattle.bgp_json_values.specs.ItemJson.{item_json}
 use Rattle.bgp_json_laws.proofs.Items.{same_as_number_2, same_as_number_4}

@@ -3,10 +3,9 @@ use Rattle.std.proofs.Common.{◌≡◌, ◌∙◌, ◌++◌, ◌||◌, ℕ, Boo
 use Rattle.std.proofs.lemmas.Bool.{both_ways}
 use Rattle.json.specs.Json.{Json, string}
 use Rattle.bgp_json.specs.Object.{typed}
-use Rattle.bgp_json.specs.Place.{packet_members, place_members, record_members}
+use Rattle.bgp_json.specs.Place.{packet_members, place_members}
 use Rattle.bgp_json.specs.declared.place.Place.{Place}
 use Rattle.bgp_json.specs.declared.place.Place.TheVariants.{InStream, InRecord}
-use Rattle.bgp_json.specs.declared.place.RecordPlace.{RecordPlace}
 use Rattle.bgp_json_laws.proofs.Lookups.{same_members, text_of, value_at}
 
 -- a key of a place
@@ -35,9 +34,9 @@ pub same_typed : (kind other : List ℕ) (place also : Place) (ms ns : List (Lis
 same_typed kind other place also ms ns e = (
   ap (λ (j : Json). text_of (value_at (codes "type") j)) e,
   sym (behind place ms)
-  ∙ ap (λ (xs : List (List ℕ × Json)). behind_place (drop 1 xs))
-  (same_members ((codes "type", string kind) ∷ (place_members place ++ ms)) ((codes "type", string other) ∷ (place_members also ++ ns)) e)
-  ∙ behind also ns,
+      ∙ ap (λ (xs : List (List ℕ × Json)). behind_place (drop 1 xs))
+      (same_members ((codes "type", string kind) ∷ (place_members place ++ ms)) ((codes "type", string other) ∷ (place_members also ++ ns)) e)
+      ∙ behind also ns,
 )
 
 pub differ : (kind other : List ℕ) → bytes_eq kind other ≡ false → bytes_eq other other ≡ true → kind ≡ other → ⊥

@@ -1,10 +1,9 @@
 -- Values with routes whose JSON is equal spell the same octets.
-use Rattle.std.proofs.Common.{◌≡◌, ◌∙◌, ◌++◌, ◌+◌, ◌==◌, ◌<◌, ◌≤◌, ◌^◌, ℕ, suc, Bool, true, false, List, [], ◌∷◌, All, Option, Some, None, bytes_eq, codes, drop, if◌then◌else◌, is_some, length, nat_lt, option_map, slice_index, take, refl, sym, ap, ap₂, subst, arith, inl, inr}
+use Rattle.std.proofs.Common.{◌≡◌, ◌++◌, ◌<◌, ◌^◌, ℕ, Bool, true, false, List, [], ◌∷◌, All, Option, Some, None, bytes_eq, codes, drop, length, nat_lt, refl, sym, ap, ap₂, subst, arith, inl, inr}
 use Rattle.std.proofs.lemmas.Bool.{cases_Bool, both_ways}
 use Rattle.std.proofs.lemmas.Option.{none-some, same_Some}
 use Rattle.std.proofs.lemmas.List.{drop_at, take_at}
-use Rattle.std.proofs.lemmas.List.Elements.{All-drop, All-head, All-tail, All-take}
-use Rattle.byteorder.specs.Endian.{big_bytes, big_number}
+use Rattle.std.proofs.lemmas.List.Elements.{All-drop, All-tail, All-take}
 use Rattle.json.specs.Json.{Json, null}
 use Rattle.bgp_prefix.specs.declared.family.Family.{Family}
 use Rattle.bgp_prefix.specs.declared.family.Family.TheVariants as families
@@ -18,7 +17,7 @@ use Rattle.bgp_update.specs.declared.destination.Destination.{Destination}
 use Rattle.bgp_update.proofs.MpValues.{reads_mp_values}
 use Rattle.bgp_values.specs.RoutesValue.{RoutesValue, unicast, other, in_family, other_in, reach_value, routes_in, unicast_of, unreach_value, with_any_hop}
 use Rattle.bgp_json_values.specs.ItemJson.{family_members}
-use Rattle.bgp_json_values.specs.RoutesJson.{destinations_json, hop_json, hop_members, other_json, path_ids_json, path_ids_members, routes_json, spelled_destinations, spelled_hop, spelled_next_hop, spelled_numbers, spelled_routes, spelled_unicast, unicast_json}
+use Rattle.bgp_json_values.specs.RoutesJson.{destinations_json, hop_members, path_ids_json, path_ids_members, routes_json, spelled_destinations, spelled_next_hop, spelled_numbers, spelled_routes}
 use Rattle.bgp_json_values.specs.Texts.{octets_json}
 use Rattle.bgp_json_laws.proofs.Destinations.{IsRead, each_read, same_identified, same_plain}
 use Rattle.bgp_json_laws.proofs.Hops.{IsHop, hop_read, same_hop}
@@ -69,15 +68,17 @@ reach_fields form family value contents are is =
     let both = All-tail IsOctet (length is.hop) (is.hop ++ is.reserved ∷ is.nlri) behind in
     let hop : AreOctets is.hop = subst AreOctets (take_at is.hop (is.reserved ∷ is.nlri) (length is.hop) refl) (All-take IsOctet (length is.hop) (is.hop ++ is.reserved ∷ is.nlri) both) in
     let rest : AreOctets (is.reserved ∷ is.nlri) = subst AreOctets (drop_at is.hop (is.reserved ∷ is.nlri) (length is.hop) refl) (All-drop IsOctet (length is.hop) (is.hop ++ is.reserved ∷ is.nlri) both) in
-    let nlri = All-tail IsOctet is.reserved is.nlri rest in
-    (each_read (is_identified form family) family is.nlri contents.destinations nlri is.destinations,
-    subst (IsHopOf true) (sym is.next_hop) (refl, hop_read true family is.hop is.address hop is.is_hop))
+    let nlri = All-tail IsOctet is.reserved is.nlri rest in (
+      each_read (is_identified form family) family is.nlri contents.destinations nlri is.destinations,
+      subst (IsHopOf true) (sym is.next_hop) (refl, hop_read true family is.hop is.address hop is.is_hop),
+    )
 
 unreach_fields : (form : RouteForm) (family : Family) (value : List ℕ) (contents : Contents) → AreOctets value → IsUnreachValue form family value contents
     → IsValue false form (unicast family contents)
-unreach_fields form family value contents are is =
-    (each_read (is_identified form family) family (drop 3 value) contents.destinations (All-drop IsOctet 3 value are) is.destinations,
-    subst (IsHopOf false) (sym is.next_hop) refl)
+unreach_fields form family value contents are is = (
+  each_read (is_identified form family) family (drop 3 value) contents.destinations (All-drop IsOctet 3 value are) is.destinations,
+  subst (IsHopOf false) (sym is.next_hop) refl,
+)
 
 in_unicast : (announced : Bool) (form : RouteForm) (family : Family) (found : Option Contents) (a : RoutesValue)
     → ((contents : Contents) → found ≡ Some contents → IsValue announced form (unicast family contents)) → unicast_of family found ≡ Some a → IsValue announced form a

@@ -1,8 +1,8 @@
 -- Numbers that a table has, by their names.
-use Rattle.std.proofs.Common.{◌≡◌, ◌∙◌, ◌<◌, ◌≤◌, ◌^◌, ℕ, zero, suc, true, List, [], ◌∷◌, Option, Some, None, is_some, refl, sym, codes, arith}
+use Rattle.std.proofs.Common.{◌≡◌, ◌∙◌, ◌<◌, ◌≤◌, ◌^◌, ℕ, zero, suc, true, List, [], Option, Some, None, is_some, refl, codes, arith}
 use Rattle.bgp_names.specs.Attributes.{origin_names, segment_names}
 use Rattle.bgp_names.specs.Capabilities.{role_names, way_names}
-use Rattle.bgp_names.specs.Naming.{name_in, name_or, named}
+use Rattle.bgp_names.specs.Naming.{name_in, name_or}
 use Rattle.bgp_names.proofs.OneName.{are_apart, one_name}
 
 -- a name that is there is the same whatever stands for one that isn't

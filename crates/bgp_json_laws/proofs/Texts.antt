@@ -1,5 +1,5 @@
 -- Texts that determine what they are of: octets, numbers, addresses and prefixes.
-use Rattle.std.proofs.Common.{◌≡◌, ◌≢◌, ◌∙◌, ◌++◌, ◌&&◌, ◌==◌, ◌<◌, ◌≤◌, ◌^◌, ℕ, zero, suc, true, not, List, [], ◌∷◌, All, get_or, length, refl, sym, ap, subst, arith, lit≤, codes, inl, inr}
+use Rattle.std.proofs.Common.{◌≡◌, ◌≢◌, ◌∙◌, ◌++◌, ◌==◌, ◌<◌, ◌^◌, ℕ, zero, suc, true, not, List, [], ◌∷◌, All, get_or, refl, sym, ap, subst, arith, lit≤, codes, inl, inr}
 use Rattle.std.specs.Fmt.{decimal}
 use Rattle.std.proofs.lemmas.Bool.{and_from, ne_eqb, not_from_false}
 use Rattle.std.proofs.lemmas.Fmt.{decimal_injective}
@@ -16,10 +16,9 @@ use Rattle.byteorder.specs.Endian.{big_bytes, big_number}
 use Rattle.byteorder.specs.Numbers.{big_from-lt}
 use Rattle.hex.specs.Hex.{decode_of, encode_lower}
 use Rattle.hex.proofs.HexLemmas.{decode_of-encode_lower, decode_of-same}
-use Rattle.json.specs.Json.{Json}
-use Rattle.bgp_prefix.specs.Address.{IsAddress, ipv4_octets, ipv6_groups}
+use Rattle.bgp_prefix.specs.Address.{IsAddress, ipv6_groups}
 use Rattle.bgp_prefix.specs.Prefix.{IsPrefix, PrefixBits, address_of, prefix_length, prefix_of}
-use Rattle.bgp_prefix.specs.Text.{address_text, dotted_text, longest_zeros, prefix_text, shortened_text}
+use Rattle.bgp_prefix.specs.Text.{address_text, prefix_text}
 use Rattle.bgp_prefix.specs.declared.address.Address.{Address}
 use Rattle.bgp_prefix.specs.declared.address.Address.TheVariants.{V4, V6}
 use Rattle.bgp_prefix.specs.PrefixLaws.{bit_count-le}

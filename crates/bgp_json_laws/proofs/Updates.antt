@@ -1,20 +1,18 @@
 -- UPDATEs whose objects are equal have the same octets.
-use Rattle.std.proofs.Common.{◌≡◌, ◌∙◌, ◌++◌, ◌&&◌, ◌<◌, ◌^◌, ℕ, Bool, true, false, List, [], ◌∷◌, All, Option, Some, None, append-nil, bytes_eq, codes, drop, get_or, length, take, refl, sym, ap, ap₂, subst, arith}
+use Rattle.std.proofs.Common.{◌≡◌, ◌∙◌, ◌++◌, ℕ, Bool, true, false, List, [], ◌∷◌, All, None, append-nil, bytes_eq, codes, drop, length, refl, sym, ap, ap₂, subst}
 use Rattle.std.specs.List.{flat_map}
 use Rattle.std.proofs.lemmas.Bool.{and_parts}
 use Rattle.std.proofs.lemmas.Slice.Eq.{bytes_eq-Decides}
 use Rattle.std.proofs.lemmas.List.{drop_at, take_at}
 use Rattle.std.proofs.lemmas.List.Elements.{All-cons, All-drop, All-head, All-nil, All-tail, All-take}
 use Rattle.byteorder.specs.Endian.{big_bytes}
-use Rattle.byteorder.specs.Numbers.{length-bytes_high_first}
 use Rattle.json.specs.Json.{Json}
 use Rattle.bgp_prefix.specs.declared.family.Family.TheVariants as families
-use Rattle.bgp_wire.specs.Message.{body_of, message_octets}
+use Rattle.bgp_wire.specs.Message.{message_octets}
 use Rattle.bgp_wire.specs.Octets.{AreOctets}
 use Rattle.bgp_wire.proofs.HeaderAndBody.{message_is_header_and_body}
-use Rattle.bgp_attr.specs.Field.{Attribute, IsAttributeField, attribute_octets, length_octets}
+use Rattle.bgp_attr.specs.Field.{Attribute, attribute_octets, length_octets}
 use Rattle.bgp_attr.specs.Split.{Split, attributes_of, rest_of, split_of, tail_at}
-use Rattle.bgp_attr.specs.declared.field.Tail.{Tail}
 use Rattle.bgp_attr.proofs.OneField.{is_field}
 use Rattle.bgp_update.specs.Destinations.{is_identified}
 use Rattle.bgp_update.specs.Parts.{SpellsParts, UpdateParts}
@@ -22,7 +20,7 @@ use Rattle.bgp_update.specs.Sections.{IsUpdate, Sections, section_octets}
 use Rattle.bgp_update.specs.declared.destination.Destination.{Destination}
 use Rattle.bgp_values.specs.declared.opens.Reading.{Reading}
 use Rattle.bgp_json_values.specs.AttributeJson.{attribute_json}
-use Rattle.bgp_json_values.specs.RoutesJson.{destinations_json, path_ids_json, spelled_destinations}
+use Rattle.bgp_json_values.specs.RoutesJson.{destinations_json, spelled_destinations}
 use Rattle.bgp_json.specs.MessageJson.{are_lists_spelled, nlri_field, octets_unless, paths_members, update_members, withdrawn_field}
 use Rattle.bgp_json.proofs.UpdateFields.{lists}
 use Rattle.bgp_json_laws.specs.Laws.{IsAttribute}
@@ -124,9 +122,10 @@ spelled_list : (octets : List ℕ) (s : Sections) (withdrawn nlri : List Destina
     → (s.withdrawn ≡ spelled_destinations withdrawn) × (s.nlri ≡ spelled_destinations nlri)
 spelled_list octets s withdrawn nlri update spelled =
     let fields = lists octets s update in
-    let both = and_parts (bytes_eq (spelled_destinations withdrawn) (withdrawn_field octets)) (bytes_eq (spelled_destinations nlri) (nlri_field octets)) spelled in
-    (sym ((bytes_eq-Decides (spelled_destinations withdrawn) (withdrawn_field octets)).0 both.0 ∙ fields.0),
-    sym ((bytes_eq-Decides (spelled_destinations nlri) (nlri_field octets)).0 both.1 ∙ fields.1))
+    let both = and_parts (bytes_eq (spelled_destinations withdrawn) (withdrawn_field octets)) (bytes_eq (spelled_destinations nlri) (nlri_field octets)) spelled in (
+      sym ((bytes_eq-Decides (spelled_destinations withdrawn) (withdrawn_field octets)).0 both.0 ∙ fields.0),
+      sym ((bytes_eq-Decides (spelled_destinations nlri) (nlri_field octets)).0 both.1 ∙ fields.1),
+    )
 
 -- ---- the whole of it
 

@@ -1,13 +1,10 @@
 -- Values of attributes whose JSON is equal spell the same octets.
-use Rattle.std.proofs.Common.{◌≡◌, ◌∙◌, ◌++◌, ◌+◌, ◌&&◌, ◌||◌, ◌==◌, ◌<◌, ◌≤◌, ◌^◌, ℕ, zero, suc, Bool, true, false, List, [], ◌∷◌, All, Option, Some, None, codes, drop, get_or, if◌then◌else◌, length, nat_le, slice_index, refl, sym, ap, ap₂, subst, arith}
-use Rattle.std.specs.Fmt.{decimal}
-use Rattle.std.specs.List.{flat_map}
-use Rattle.std.proofs.lemmas.Bool.{and_parts, eqb-true, leb-true, or_left, or_right}
+use Rattle.std.proofs.Common.{◌≡◌, ◌∙◌, ◌++◌, ◌+◌, ◌&&◌, ◌||◌, ◌==◌, ◌<◌, ◌^◌, ℕ, Bool, true, false, List, [], ◌∷◌, Option, Some, None, codes, drop, if◌then◌else◌, length, nat_le, slice_index, refl, sym, ap, ap₂, subst, arith}
+use Rattle.std.proofs.lemmas.Bool.{and_parts, leb-true, or_left, or_right}
 use Rattle.std.proofs.lemmas.Fmt.{decimal_injective}
 use Rattle.std.proofs.lemmas.Option.{cond_some, none-some}
 use Rattle.std.proofs.lemmas.List.Elements.{All-drop}
 use Rattle.byteorder.specs.Endian.{big_bytes, big_number}
-use Rattle.json.specs.Json.{Json}
 use Rattle.bgp_wire.specs.Octets.{AreOctets}
 use Rattle.bgp_attr.specs.Segments.{are_segments, number_width, segment_octets}
 use Rattle.bgp_values.specs.AttributeValue.{AttributeValue, origin, path, address, number, atomic, aggregator, items, metric, address_value, aggregator_value, as4_path_value, atomic_value, attribute_value, is_address_type, is_number_type, items_value, metric_value, number_value, origin_value, path_value}

@@ -1,4 +1,4 @@
--- What the laws say: objects that are equal are of the same octets.
+-- What the laws say: equal objects tell of equal octets.
 use Rattle.std.specs.Prelude.{◌≡◌, ◌<◌, ℕ, List}
 use Rattle.bgp_open.specs.Triplet.{Triplet}
 use Rattle.bgp_attr.specs.Field.{Attribute}
@@ -23,7 +23,8 @@ pub record IsAttribute (a : Attribute) : Type 0 where
 
 -- two capabilities with one object are one
 abbrev pub CapabilitiesDiffer : Type 0
-CapabilitiesDiffer = (c d : Triplet) → IsTriplet c → IsTriplet d → capability_json c ≡ capability_json d → c ≡ d
+CapabilitiesDiffer =
+    (c d : Triplet) → IsTriplet c → IsTriplet d → capability_json c ≡ capability_json d → c ≡ d
 
 -- two attributes with one object are one, however each is read
 abbrev pub AttributesDiffer : Type 0
