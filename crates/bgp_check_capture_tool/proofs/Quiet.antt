@@ -1,5 +1,5 @@
 -- Where what is well is left out, just what isn't stays.
-use Rattle.std.proofs.Common.{◌≡◌, ◌∙◌, ◌++◌, ◌||◌, ◌⊎◌, ℕ, Bool, true, false, not, List, [], ◌∷◌, Option, None, Some, if◌then◌else◌, is_some, inl, inr, refl, sym, ap, ap₂, append-nil, append_assoc, map}
+use Rattle.std.proofs.Common.{◌≡◌, ◌∙◌, ◌+◌, ◌++◌, ◌||◌, ◌⊎◌, ℕ, Bool, true, false, not, List, [], ◌∷◌, Option, None, Some, if◌then◌else◌, is_some, inl, inr, refl, sym, ap, ap₂, append-nil, append_assoc, length, map}
 use Rattle.std.specs.List.{AllByRecursion, flat_map, list_any}
 use Rattle.std.proofs.lemmas.Bool.{cases_Bool, false≢true, or_parts}
 use Rattle.bgp_prefix.specs.Shown.{ShownRecord}
@@ -9,6 +9,7 @@ use Rattle.mrt_sessions.specs.File.{Located}
 use Rattle.mrt_sessions.specs.declared.addresses.Addresses.{Addresses}
 use Rattle.bgp_judge.specs.Verdict.{No, Unfinished, Yes}
 use Rattle.bgp_check.specs.Answered.{AnswerValue, JudgedAs, Unjudged}
+use Rattle.bgp_check.specs.Cut.{joined}
 use Rattle.bgp_list.specs.Sessions.{fault_text, refused_text}
 use Rattle.bgp_check_text.specs.Quiet.{is_well}
 use Rattle.bgp_check_text.specs.Tally as tallies
@@ -21,6 +22,7 @@ use Rattle.bgp_check_capture_tool.specs.Counted.{with_fault}
 use Rattle.bgp_check_capture_tool.specs.Ends.{AreTold, End, IsSessionTold, IsToldAsRead, IsToldOf, Silent, Staying, Stretch, TellsRecords, TellsStretches}
 use Rattle.bgp_check_capture_tool.specs.Headings.{heading}
 use Rattle.bgp_check_capture_tool.specs.Quiet.{QuietKeepsTrouble, aloud, file_pieces, has_trouble, is_end_well, kept_of, pieces_of, printed, whole_of}
+use Rattle.bgp_check_capture_tool.specs.Stretches.{first_of}
 use Rattle.bgp_check_capture_tool.specs.StretchEnd.{IsStretchEnd, StretchEnd, View}
 use Rattle.bgp_check_capture_tool.specs.Text.{answer_text, end_text, ends_text, headed, kept_text}
 use Rattle.bgp_check_capture_tool.specs.declared.telling.Telling.{Telling}
@@ -214,7 +216,10 @@ module _ (printing : Printing) where
   all_told view before [] rest [] it = it
   all_told view before [] rest (end ∷ ends) it = it
   all_told view before (stretch ∷ stretches) rest [] it = it
-  all_told view before (stretch ∷ stretches) rest (end ∷ ends) it = (same_told view before stretch _ end it.0, all_told view _ stretches rest ends it.1)
+  all_told view before (stretch ∷ stretches) rest (end ∷ ends) it = (
+    same_told view before stretch (first_of (joined stretches ++ rest)) end it.0,
+    all_told view (before + length stretch) stretches rest ends it.1,
+  )
 
   same_stretches : (view : View) (records rest : List ShownRecord) (ends : List End) → TellsStretches view records rest ends → TellsStretches (other_view view) records rest ends
   same_stretches view records rest ends it = record {
