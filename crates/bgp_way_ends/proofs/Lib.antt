@@ -1,0 +1,4 @@
+mod Chains
+mod Hearing
+mod Phases
+mod WayEnds
