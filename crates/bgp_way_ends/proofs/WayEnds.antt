@@ -95,7 +95,7 @@ fine_in state before (Passed second (Ended x) ∷ front) later =
 
 -- ---- its messages are those of the exchange
 
-abbrev octets_of : List Message → List (List ℕ)
+abbrev pub octets_of : List Message → List (List ℕ)
 octets_of messages = map (λ (m : Message). m.octets.now) messages
 
 heard_both : (xs ys : List ShownRecord) → heard_in (xs ++ ys) ≡ heard_in xs ++ heard_in ys
@@ -242,35 +242,45 @@ module _ (config : Config) where
       sym (ap (λ (v : End). v.routes) is)
       ∙ (each config records s run).none (λ up. isnt (fsm_told each records e (s, run, is) ∙ up))
 
-  module _ (ends : EndsByChains) (each : EachRunIsAsTold) (second new other : ℕ) (records others : List ShownRecord) (fine : Fine records) (fine' : Fine others)
+  module _ (ends : EndsByChains) (each : EachRunIsAsTold) (second second' new other : ℕ) (records others : List ShownRecord) (fine : Fine records) (fine' : Fine others)
       (same : heard_in records ≡ heard_in others) where
-    alike : (e f : End) → e.fsm ≡ f.fsm → IsComplete config (shown.Changed second 1 new ∷ records) e → IsComplete config (shown.Changed second 1 other ∷ others) f
-        → IsComplete config (shown.Changed second 1 other ∷ others) e
+    alike : (e f : End) → e.fsm ≡ f.fsm → IsComplete config (shown.Changed second 1 new ∷ records) e → IsComplete config (shown.Changed second' 1 other ∷ others) f
+        → IsComplete config (shown.Changed second' 1 other ∷ others) e
     alike e f state ce cf = elim (is_established e.fsm) [
       | inl up ↦
           let may : MayHave config Before no_routes (heard_in others) e.routes =
           subst (λ (os : List (List ℕ)). MayHave config Before no_routes os e.routes) same
           (may_have second new records fine e up (to_chain ends second new records e ce)) in
-          from_chain ends second other others e
-          (has_too second other others fine' f (sym state ∙ up) (to_chain ends second other others f cf) e up may)
+          from_chain ends second' other others e
+          (has_too second' other others fine' f (sym state ∙ up) (to_chain ends second' other others f cf) e up may)
       | inr isnt ↦
           let none = no_routes_told each (shown.Changed second 1 new ∷ records) e isnt ce in
-          let none' = no_routes_told each (shown.Changed second 1 other ∷ others) f (λ up. isnt (state ∙ up)) cf in
+          let none' = no_routes_told each (shown.Changed second' 1 other ∷ others) f (λ up. isnt (state ∙ up)) cf in
           let one : f ≡ e = λ i. record { fsm = sym state i; routes = (none' ∙ sym none) i } in
-          subst (λ (v : End). IsComplete config (shown.Changed second 1 other ∷ others) v) one cf
+          subst (λ (v : End). IsComplete config (shown.Changed second' 1 other ∷ others) v) one cf
     ]
 
 -- ---- the laws
 
+-- the records of two ways in which the same messages are received
+pub events_alike : EndsByChains → EachRunIsAsTold → (config : Config) (second second' : ℕ) (start other : State) (events others : List Event) (e f : End)
+    → octets_of (received_in (items_in events)) ≡ octets_of (received_in (items_in others)) → e.fsm ≡ f.fsm
+    → IsComplete config (records_of_way second start events) e → IsComplete config (records_of_way second' other others) f
+    → IsComplete config (records_of_way second' other others) e
+events_alike ends each config second second' start other events others e f same state ce cf =
+    alike config ends each second second' (state_number start) (state_number other) (records_in start Other events []) (records_in other Other others [])
+    (fine_in start Other events []) (fine_in other Other others [])
+    (heard_way start Other events [] ∙ same ∙ sym (heard_way other Other others [])) e f state ce cf
+
+-- all ends of a list of records are in one state
+pub one_state : EachRunIsAsTold → (config : Config) (records : List ShownRecord) (e f : End) → IsComplete config records e → IsComplete config records f → e.fsm ≡ f.fsm
+one_state each config records e f ce cf = fsm_told config each records e ce ∙ sym (fsm_told config each records f cf)
+
 pub ways_end_alike : EndsByChains → EachRunIsAsTold → WholeWaysEndAlike
 ways_end_alike ends each config within exchange one other state e complete =
-    let records = records_of_way exchange.second one.start one.events in
-    let fsm : e.fsm ≡ other.end.fsm = fsm_told config each records e complete ∙ sym (fsm_told config each records one.end one.complete) ∙ state in
-    let heard : heard_in (records_in one.start Other one.events []) ≡ heard_in (records_in other.start Other other.events []) =
-    heard_way one.start Other one.events [] ∙ ap octets_of (one.way.allowed.of_received ∙ sym other.way.allowed.of_received)
-    ∙ sym (heard_way other.start Other other.events []) in
-    alike config ends each exchange.second (state_number one.start) (state_number other.start) (records_in one.start Other one.events []) (records_in other.start Other other.events [])
-    (fine_in one.start Other one.events []) (fine_in other.start Other other.events []) heard e other.end fsm complete other.complete
+    let fsm : e.fsm ≡ other.end.fsm = one_state each config (records_of_way exchange.second one.start one.events) e one.end complete one.complete ∙ state in
+    events_alike ends each config exchange.second exchange.second one.start other.start one.events other.events e other.end
+    (ap octets_of (one.way.allowed.of_received ∙ sym other.way.allowed.of_received)) fsm complete other.complete
 
 pub one_tells_all : WholeWaysEndAlike → OneWayTellsAllEnds
 one_tells_all alike config within exchange one e state = (

@@ -1,1 +1,2 @@
 pub mod WayEnds
+pub mod Connections

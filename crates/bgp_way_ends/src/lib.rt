@@ -11,4 +11,6 @@
 
 mod laws;
 
-pub use laws::{one_way_for_each_state_is_enough, whole_ways_end_alike};
+pub use laws::{
+    a_yes_lists_all_ends_in_its_states, one_way_for_each_state_is_enough, whole_ways_end_alike,
+};
