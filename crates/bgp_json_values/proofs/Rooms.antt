@@ -50,3 +50,23 @@ one_digit n few = ap length (decimal_digit n few)
 
 pub more_digits : (n : ℕ) → 10 ≤ n → n < 2 ^ 64 → length (decimal n) ≡ length (decimal (n / 10)) + 1
 more_digits n many fits = ap length (decimal_step n many fits) ∙ length-append _ _
+
+-- ---- numbers with a colon between them
+
+pub two_octets_len : (n : ℕ) → n < 2 ^ 16 → length (decimal n) ≤ 5
+two_octets_len n fits = length-decimal-le 5 n (omega arith) (omega arith) (omega arith)
+
+pub four_octets_len : (n : ℕ) → n < 2 ^ 32 → length (decimal n) ≤ 10
+four_octets_len n fits = length-decimal-le 10 n (omega arith) (omega arith) (omega arith)
+
+ascii_pair : (first second : ℕ) → first < 2 ^ 32 → second < 2 ^ 32 → IsAscii (decimal first ++ 58 ∷ decimal second)
+ascii_pair first second fits also =
+    IsAscii-append _ _ (IsAscii-decimal first (omega arith)) (IsAscii-cons 58 _ (omega arith) (IsAscii-decimal second (omega arith)))
+
+pub utf8_pair : (first second : ℕ) → first < 2 ^ 32 → second < 2 ^ 32 → IsUtf8 (decimal first ++ 58 ∷ decimal second)
+utf8_pair first second fits also = IsUtf8-from_ascii _ (ascii_pair first second fits also)
+
+pub utf8_triple : (first second third : ℕ) → first < 2 ^ 32 → second < 2 ^ 32 → third < 2 ^ 32
+    → IsUtf8 (decimal first ++ 58 ∷ (decimal second ++ 58 ∷ decimal third))
+utf8_triple first second third fits also too =
+    IsUtf8-from_ascii _ (IsAscii-append _ _ (IsAscii-decimal first (omega arith)) (IsAscii-cons 58 _ (omega arith) (ascii_pair second third also too)))
