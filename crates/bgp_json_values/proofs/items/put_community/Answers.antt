@@ -1,4 +1,4 @@
-use Rattle.std.proofs.Common.{◌∙◌, ◌+◌, List, ℕ, arith, refl, subst, sym}
+use Rattle.std.proofs.Common.{List, ℕ, arith, refl, subst, sym}
 use Rattle.std.specs.Str.{IsUtf8}
 use Rattle.bgp_json_values.proofs.Rooms.{behind, two_octets_len, utf8_pair, whole}
 use Rattle.bgp_json_values.proofs.items.put_community.Goals as goal

@@ -1,4 +1,4 @@
-use Rattle.std.proofs.Common.{◌∙◌, ◌+◌, List, ℕ, arith, refl, subst, sym}
+use Rattle.std.proofs.Common.{List, ℕ, arith, refl, subst, sym}
 use Rattle.std.specs.Str.{IsUtf8}
 use Rattle.bgp_json_values.proofs.Rooms.{behind, four_octets_len, utf8_triple, whole}
 use Rattle.bgp_json_values.proofs.items.put_large_community.Goals as goal

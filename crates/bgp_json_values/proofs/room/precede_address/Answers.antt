@@ -1,4 +1,4 @@
-use Rattle.std.proofs.Common.{◌∙◌, ◌+◌, ◌∷◌, ℕ, List, ap, arith, decimal, get_or, length}
+use Rattle.std.proofs.Common.{◌∙◌, ℕ, List, ap, arith, get_or}
 use Rattle.bgp_prefix.specs.Text.{address_text, dotted_text}
 use Rattle.bgp_json_values.proofs.Rooms.{behind, octet_at}
 use Rattle.bgp_json_values.proofs.room.precede_address.Goals as goal

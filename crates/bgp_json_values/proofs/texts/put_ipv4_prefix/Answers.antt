@@ -1,4 +1,4 @@
-use Rattle.std.proofs.Common.{◌∙◌, ◌+◌, List, ℕ, arith, refl, subst, sym}
+use Rattle.std.proofs.Common.{List, ℕ, arith, refl, subst, sym}
 use Rattle.std.specs.Str.{IsUtf8}
 use Rattle.bgp_json_values.proofs.Rooms.{behind, octet_len, utf8_prefix, whole}
 use Rattle.bgp_json_values.proofs.texts.put_ipv4_prefix.Goals as goal
