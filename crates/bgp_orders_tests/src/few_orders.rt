@@ -141,10 +141,12 @@ impl Course {
 
 /// Which of the sent messages is the first NOTIFICATION.
 fn first_notification(passed: &Passed) -> Option<usize> {
-    passed
-        .sent
-        .iter()
-        .position(|own| own.kind == Some(MessageType::Notification))
+    for (at, own) in passed.sent.iter().enumerate() {
+        if own.kind == Some(MessageType::Notification) {
+            return Some(at);
+        }
+    }
+    None
 }
 
 /// The records of the order that is chosen, if there is such a one.
@@ -166,8 +168,14 @@ fn records_by(alloc: Global, passed: &Passed, choice: &Choice) -> Option<Vec<Rec
             course.go_on(passed)?;
         }
     }
-    let is_done = course.received == passed.received.len() && course.sent == passed.sent.len();
-    (is_done && course.has_ended).then_some(course.told.records)
+    let Course {
+        received,
+        sent,
+        has_ended,
+        told,
+    } = course;
+    let is_done = received == passed.received.len() && sent == passed.sent.len();
+    (is_done && has_ended).then_some(told.records)
 }
 
 /// What the few orders of an exchange say together.
