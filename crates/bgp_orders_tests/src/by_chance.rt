@@ -1,6 +1,6 @@
 //! Whether exchanges by chance have the answers that another program gave.
 
-use crate::exchanges::{CASES, Case};
+use crate::exchanges::{Case, FIFTH, FIRST, FOURTH, SECOND, SEVENTH, SIXTH, THIRD};
 use crate::explained::{MALFORMED_LIST, REJECTED, router_a};
 use crate::instead::NOTHING;
 use bgp_instead::{Sendable, sendable_instead};
@@ -284,10 +284,50 @@ fn is_so(alloc: Global, case: &Case, opened_by: Side) -> Option<bool> {
     Some(found(alloc, &config, &exchange, within)? == answer_of(case.answer)?)
 }
 
-#[test]
-fn exchanges_have_their_answers(rt: HostRuntime) {
-    for case in &CASES {
-        assert!(rt; is_so(rt.alloc(), case, Side::Peer) == Some(true));
-        assert!(rt; is_so(rt.alloc(), case, Side::Local) == Some(true));
+/// Whether all of them have, asked from both sides.
+fn are_so(alloc: Global, cases: &[Case]) -> bool {
+    for case in cases {
+        if is_so(alloc, case, Side::Peer) != Some(true) {
+            return false;
+        }
+        if is_so(alloc, case, Side::Local) != Some(true) {
+            return false;
+        }
     }
+    true
+}
+
+#[test]
+fn the_first_exchanges_have_their_answers(rt: HostRuntime) {
+    assert!(rt; are_so(rt.alloc(), &FIRST));
+}
+
+#[test]
+fn the_second_exchanges_have_their_answers(rt: HostRuntime) {
+    assert!(rt; are_so(rt.alloc(), &SECOND));
+}
+
+#[test]
+fn the_third_exchanges_have_their_answers(rt: HostRuntime) {
+    assert!(rt; are_so(rt.alloc(), &THIRD));
+}
+
+#[test]
+fn the_fourth_exchanges_have_their_answers(rt: HostRuntime) {
+    assert!(rt; are_so(rt.alloc(), &FOURTH));
+}
+
+#[test]
+fn the_fifth_exchanges_have_their_answers(rt: HostRuntime) {
+    assert!(rt; are_so(rt.alloc(), &FIFTH));
+}
+
+#[test]
+fn the_sixth_exchanges_have_their_answers(rt: HostRuntime) {
+    assert!(rt; are_so(rt.alloc(), &SIXTH));
+}
+
+#[test]
+fn the_seventh_exchanges_have_their_answers(rt: HostRuntime) {
+    assert!(rt; are_so(rt.alloc(), &SEVENTH));
 }

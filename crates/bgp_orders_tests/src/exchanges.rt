@@ -20,7 +20,7 @@ pub(crate) struct Case {
     pub(crate) answer: &'static str,
 }
 
-pub(crate) static CASES: [Case; 100] = [
+pub(crate) static FIRST: [Case; 15] = [
     Case {
         settings: "10 -",
         received: "-",
@@ -126,6 +126,9 @@ pub(crate) static CASES: [Case; 100] = [
         end: "-",
         answer: "1: keepalive 2/6 6/5",
     },
+];
+
+pub(crate) static SECOND: [Case; 15] = [
     Case {
         settings: "0 delays",
         received: "open 4 100",
@@ -231,6 +234,9 @@ pub(crate) static CASES: [Case; 100] = [
         end: "peer 6 100",
         answer: "whole",
     },
+];
+
+pub(crate) static THIRD: [Case; 15] = [
     Case {
         settings: "10 delays",
         received: "open 4 100, header 6 130",
@@ -336,6 +342,9 @@ pub(crate) static CASES: [Case; 100] = [
         end: "-",
         answer: "2: keepalive 1/2 6/5",
     },
+];
+
+pub(crate) static FOURTH: [Case; 15] = [
     Case {
         settings: "10 delays",
         received: "open 5 100",
@@ -441,6 +450,9 @@ pub(crate) static CASES: [Case; 100] = [
         end: "-",
         answer: "whole",
     },
+];
+
+pub(crate) static FIFTH: [Case; 15] = [
     Case {
         settings: "10 delays",
         received: "open 4 100, keepalive 5 100",
@@ -546,6 +558,9 @@ pub(crate) static CASES: [Case; 100] = [
         end: "-",
         answer: "2: keepalive update 3/9 8/0 6/5",
     },
+];
+
+pub(crate) static SIXTH: [Case; 15] = [
     Case {
         settings: "10 delays",
         received: "open 5 100, keepalive 7 111, open 7 111",
@@ -651,6 +666,9 @@ pub(crate) static CASES: [Case; 100] = [
         end: "-",
         answer: "3: 3/1",
     },
+];
+
+pub(crate) static SEVENTH: [Case; 10] = [
     Case {
         settings: "10 delays",
         received: "open 4 105, keepalive 7 105, header 8 105",
