@@ -1,6 +1,7 @@
 //! Laws of objects, each on a function that does nothing.
 
 ghost use Rattle.bgp_json_laws.specs.Laws.{AttributesDiffer, CapabilitiesDiffer, MessagesDiffer};
+ghost use Rattle.bgp_json_laws.specs.Laws.{ObjectsDiffer, RecordLinesDiffer, RecordTextsDiffer};
 
 /// States that two different capabilities have different objects (RFC 5492, 4).
 pub fn each_capability_has_its_object()
@@ -17,4 +18,16 @@ pub fn each_attribute_has_its_object()
 /// different objects, however each is read and wherever it stands (RFC 4271, 4).
 pub fn each_message_has_its_object()
     ensures { MessagesDiffer }
+{}
+
+/// States that the object of a message, or of a header with faults in a record, determines its
+/// octets.
+pub fn each_object_has_its_octets()
+    ensures { ObjectsDiffer }
+{}
+
+/// States that the lines of records determine what these show, each line and the whole text.
+pub fn each_record_has_its_line()
+    ensures lines { RecordLinesDiffer }
+    ensures texts { RecordTextsDiffer }
 {}

@@ -9,4 +9,5 @@ mod laws;
 
 pub use laws::{
     each_attribute_has_its_object, each_capability_has_its_object, each_message_has_its_object,
+    each_object_has_its_octets, each_record_has_its_line,
 };
