@@ -23,3 +23,6 @@ pub mod MessageDecimals
 pub mod Printing
 pub mod Objects
 pub mod Records
+pub mod Frames
+pub mod Streams
+pub mod Captures

@@ -1,14 +1,11 @@
 -- Numbers in the objects of messages are in decimal.
-use Rattle.std.proofs.Common.{◌≡◌, ◌++◌, ◌&&◌, ◌||◌, ◌==◌, ◌<◌, ◌^◌, ℕ, Bool, true, false, List, [], ◌∷◌, All, Option, Some, None, bytes_eq, codes, drop, if◌then◌else◌, is_some, length, slice_index, sym, subst, arith}
-use Rattle.std.specs.Prelude.{⊤}
+use Rattle.std.proofs.Common.{◌≡◌, ◌++◌, ◌&&◌, ◌||◌, ◌==◌, ◌<◌, ◌^◌, ℕ, Bool, true, false, List, [], ◌∷◌, All, Option, Some, None, codes, if◌then◌else◌, length, slice_index, sym, subst, arith}
 use Rattle.std.proofs.lemmas.Option.{cond_some, none-some, same_Some}
-use Rattle.std.proofs.lemmas.List.Elements.{All-append, All-cons, All-drop, All-head, All-nil, All-tail}
-use Rattle.json.specs.Json.{Json, string}
+use Rattle.std.proofs.lemmas.List.Elements.{All-head, All-tail}
+use Rattle.json.specs.Json.{Json}
 use Rattle.bgp_prefix.specs.declared.family.Family.TheVariants as families
 use Rattle.bgp_path.specs.declared.path.NextHop.{NextHop}
-use Rattle.bgp_wire.specs.Header.{header_of, length_of, type_of}
 use Rattle.bgp_wire.specs.Octets.{AreOctets}
-use Rattle.bgp_wire.specs.declared.header.HeaderFaults.{HeaderFaults}
 use Rattle.bgp_open.specs.Offer.{afi_of}
 use Rattle.bgp_open.specs.Open.{OpenFields, open_of, parameters_of}
 use Rattle.bgp_open.specs.OpenFault.{open_fault_number}
@@ -22,22 +19,18 @@ use Rattle.bgp_update.specs.Parts.{SpellsParts, UpdateParts}
 use Rattle.bgp_update.specs.declared.destination.Destination.{Destination}
 use Rattle.bgp_text.specs.Message.{Message, Says, open_message, malformed_open_message, update_message, malformed_update_message, notification_message, keepalive_message}
 use Rattle.bgp_values.specs.AttributeValue.{AttributeValue, attribute_value}
-use Rattle.bgp_values.specs.ErrorData.{DataValue, ErrorFields, cause_of, communication, communication_in, data_value, fields_in, maximum, maximum_in}
+use Rattle.bgp_values.specs.ErrorData.{DataValue, ErrorFields, cause_of, communication, communication_in, data_value, fields_in, maximum_in}
 use Rattle.bgp_values.specs.RoutesValue.{RoutesValue, unicast, other, reach_value, unreach_value}
-use Rattle.bgp_values.specs.declared.opens.Direction.{Direction}
 use Rattle.bgp_values.specs.declared.opens.Reading.{Reading}
 use Rattle.bgp_lines.specs.MessageLine.{fields_of}
-use Rattle.bgp_lines.specs.Others.{fault_subcodes, subcode_if}
-use Rattle.bgp_json_values.specs.AttributeJson.{attribute_json, attribute_members, attribute_value_json, plain_members, said_members, spelled_attribute, width_member, width_members, width_of_type}
+use Rattle.bgp_json_values.specs.AttributeJson.{attribute_json, attribute_members, attribute_value_json, plain_members, spelled_attribute, width_members, width_of_type}
 use Rattle.bgp_json_values.specs.CapabilityJson.{capability_json}
 use Rattle.bgp_json_values.specs.ErrorJson.{cause_members, data_members, error_members, plain_error_members}
 use Rattle.bgp_json_values.specs.ItemJson.{family_members}
-use Rattle.bgp_json_values.specs.Objects.{number_of, object_of}
-use Rattle.bgp_json_values.specs.Octets.{octets_members}
+use Rattle.bgp_json_values.specs.Objects.{number_of}
 use Rattle.bgp_json_values.specs.RoutesJson.{destination_json, destinations_json, hop_addresses, hop_members, ids_of, path_ids_json, path_ids_members, routes_json, spelled_routes}
 use Rattle.bgp_json_values.specs.Texts.{address_json}
-use Rattle.bgp_json.specs.MessageJson as objects
-use Rattle.bgp_json.specs.MessageJson.{are_lists_spelled, are_parameters_spelled, malformed_open_members, message_json, octets_unless, open_members, paths_json, paths_members, update_members}
+use Rattle.bgp_json.specs.MessageJson.{are_lists_spelled, are_parameters_spelled, octets_unless, open_members, paths_members, update_members}
 use Rattle.bgp_json_laws.specs.Laws.{IsAttribute, IsTriplet}
 use Rattle.bgp_json_laws.proofs.Decimals.{HasDecimals, HaveDecimals, of_array, of_both, of_number, of_object, of_texts, of_unless, of_value}
 use Rattle.bgp_json_laws.proofs.Destinations.{Fits, IsRead, each_read, ids_fit}
@@ -67,10 +60,14 @@ of_hop (Some hop) = (of_texts address_json (λ a. tt) (hop_addresses hop), tt)
 
 of_routes : (announced : Bool) (name : List ℕ) (form : RouteForm) (a : RoutesValue) → IsValue announced form a → HasDecimals (routes_json name form a)
 of_routes announced name form (unicast family contents) is =
-    of_object (family_members (afi_of family) 1 ++ (hop_members contents.next_hop ++ (name, destinations_json contents.destinations) ∷ path_ids_members (is_identified form family) contents.destinations))
-    (of_number (afi_of family) (afi_fits family), (of_number 1 (omega arith),
-    of_both (hop_members contents.next_hop) ((name, destinations_json contents.destinations) ∷ path_ids_members (is_identified form family) contents.destinations)
-    (of_hop contents.next_hop) (of_destinations contents.destinations, of_paths (is_identified form family) contents.destinations is.0)))
+    of_object (family_members (afi_of family) 1 ++ (hop_members contents.next_hop ++ (name, destinations_json contents.destinations) ∷ path_ids_members (is_identified form family) contents.destinations)) (
+      of_number (afi_of family) (afi_fits family),
+      (
+        of_number 1 (omega arith),
+        of_both (hop_members contents.next_hop) ((name, destinations_json contents.destinations) ∷ path_ids_members (is_identified form family) contents.destinations)
+            (of_hop contents.next_hop) (of_destinations contents.destinations, of_paths (is_identified form family) contents.destinations is.0),
+      ),
+    )
 of_routes announced name form (other afi safi octets) is = (of_number afi is.0, (of_number safi is.1, (tt, tt)))
 
 -- ---- attributes
@@ -99,13 +96,21 @@ of_attribute : (reading : Reading) (a : Attribute) → IsAttribute a → HasDeci
 of_attribute reading a is =
     let kind = is.kind in
     let flags = is.flags in
-    of_object (attribute_members reading a) (of_number a.kind (omega (arith, kind)), (tt, (of_number a.flags (omega (arith, flags)),
-    of_either (a.kind == 14) (a.kind == 15) _ _ _
-    (of_value (routes_json (codes "nlri") reading.form) spelled_routes (reach_value reading.form a.value) a.value
-    (λ v e. of_routes true (codes "nlri") reading.form v (reach_read reading.form a.value v is.value e)))
-    (of_value (routes_json (codes "withdrawn") reading.form) spelled_routes (unreach_value reading.form a.value) a.value
-    (λ v e. of_routes false (codes "withdrawn") reading.form v (unreach_read reading.form a.value v is.value e)))
-    (of_plain reading.as4 a.kind a.value is.value))))
+    of_object (attribute_members reading a) (
+      of_number a.kind (omega (arith, kind)),
+      (
+        tt,
+        (
+          of_number a.flags (omega (arith, flags)),
+          of_either (a.kind == 14) (a.kind == 15) _ _ _
+              (of_value (routes_json (codes "nlri") reading.form) spelled_routes (reach_value reading.form a.value) a.value
+              (λ v e. of_routes true (codes "nlri") reading.form v (reach_read reading.form a.value v is.value e)))
+              (of_value (routes_json (codes "withdrawn") reading.form) spelled_routes (unreach_value reading.form a.value) a.value
+              (λ v e. of_routes false (codes "withdrawn") reading.form v (unreach_read reading.form a.value v is.value e)))
+              (of_plain reading.as4 a.kind a.value is.value),
+        ),
+      ),
+    )
 
 -- ---- errors
 
@@ -145,9 +150,19 @@ shows_value code subcode =
 of_plain_error : (e : ErrorFields) → AreError e → HaveDecimals (plain_error_members e)
 of_plain_error e is =
     let code = is.0 in
-    let subcode = is.1 in
-    (of_number e.code (omega (arith, code)), (of_number e.subcode (omega (arith, subcode)), (tt, (tt,
-    of_data (data_value e) (λ a found. shows_value e.code e.subcode e.detail a is.2 found)))))
+    let subcode = is.1 in (
+      of_number e.code (omega (arith, code)),
+      (
+        of_number e.subcode (omega (arith, subcode)),
+        (
+          tt,
+          (
+            tt,
+            of_data (data_value e) (λ a found. shows_value e.code e.subcode e.detail a is.2 found),
+          ),
+        ),
+      ),
+    )
 
 fields_read : (octets : List ℕ) (cause : ErrorFields) → AreOctets octets → fields_in octets ≡ Some cause → AreError cause
 fields_read [] cause are e = absurd (none-some cause e)
@@ -173,9 +188,16 @@ of_error e is =
 
 of_open : (octets : List ℕ) → AreOctets octets → HaveDecimals (open_members (open_of octets))
 of_open octets are =
-    let fields = fields_are octets are in
-    (of_number _ (my_as_fits _ fields), (of_number _ (hold_fits _ fields), (tt,
-    (of_array capability_json IsTriplet of_capability (open_of octets).capabilities (each_capability (parameters_of octets) (parameters_are octets are)), tt))))
+    let fields = fields_are octets are in (
+      of_number _ (my_as_fits _ fields),
+      (
+        of_number _ (hold_fits _ fields),
+        (
+          tt,
+          (of_array capability_json IsTriplet of_capability (open_of octets).capabilities (each_capability (parameters_of octets) (parameters_are octets are)), tt),
+        ),
+      ),
+    )
 
 fault_fits : (fault : OpenFault) → open_fault_number fault < 2 ^ 64
 fault_fits Malformed = omega arith
@@ -192,11 +214,18 @@ of_update reading octets parts are says =
     let fields = sections_are octets s are says.update in
     let own = is_identified reading.form families.V4 in
     let each = each_attribute parts.attributes (subst AreOctets (whole_field s.attributes parts.attributes fields.1 says.attributes) fields.1) in
-    let spelled = are_lists_spelled parts.withdrawn parts.nlri octets in
-    (of_destinations parts.withdrawn, (of_array (attribute_json reading) IsAttribute (of_attribute reading) parts.attributes each, (of_destinations parts.nlri,
-    of_both (paths_members own parts.withdrawn parts.nlri) (octets_unless spelled octets)
-    (of_list_paths own parts.withdrawn parts.nlri (each_read own families.V4 s.withdrawn parts.withdrawn fields.0 says.withdrawn) (each_read own families.V4 s.nlri parts.nlri fields.2 says.nlri))
-    (of_unless spelled octets))))
+    let spelled = are_lists_spelled parts.withdrawn parts.nlri octets in (
+      of_destinations parts.withdrawn,
+      (
+        of_array (attribute_json reading) IsAttribute (of_attribute reading) parts.attributes each,
+        (
+          of_destinations parts.nlri,
+          of_both (paths_members own parts.withdrawn parts.nlri) (octets_unless spelled octets)
+              (of_list_paths own parts.withdrawn parts.nlri (each_read own families.V4 s.withdrawn parts.withdrawn fields.0 says.withdrawn) (each_read own families.V4 s.nlri parts.nlri fields.2 says.nlri))
+              (of_unless spelled octets),
+        ),
+      ),
+    )
 
 pub of_members : (reading : Reading) (octets : List ℕ) (message : Message) → AreOctets octets → Says reading.form octets message → HaveDecimals (members_of reading octets message)
 of_members reading octets (open_message fields) are says =

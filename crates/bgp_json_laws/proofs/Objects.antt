@@ -1,9 +1,7 @@
 -- Objects of messages and of headers with faults: equal ones are of the same octets.
-use Rattle.std.proofs.Common.{◌≡◌, ◌∙◌, ◌++◌, ◌<◌, ◌≤◌, ◌^◌, ℕ, Bool, true, false, List, [], ◌∷◌, All, Option, None, Some, bytes_eq, codes, is_some, refl, sym, ap, subst, arith, inl, inr}
+use Rattle.std.proofs.Common.{◌≡◌, ◌∙◌, ◌++◌, ◌<◌, ◌^◌, ℕ, Bool, true, false, List, [], All, Option, None, Some, bytes_eq, codes, is_some, refl, sym, ap, subst, arith, inl, inr}
 use Rattle.std.proofs.lemmas.List.Elements.{All-append, All-cons, All-drop, All-nil, All-take}
-use Rattle.std.specs.Prelude.{⊤}
-use Rattle.json.specs.Json.{Json, max_depth}
-use Rattle.json.specs.Tree.{depth}
+use Rattle.json.specs.Json.{Json}
 use Rattle.bgp_wire.specs.Header.{header_of, length_of, type_of}
 use Rattle.bgp_wire.specs.Octets.{AreOctets}
 use Rattle.bgp_wire.specs.declared.header.HeaderFaults.{HeaderFaults}
@@ -20,7 +18,7 @@ use Rattle.bgp_json.specs.declared.place.Place.{Place}
 use Rattle.bgp_json.specs.declared.place.Place.TheVariants.{InStream, InRecord}
 use Rattle.bgp_json.specs.declared.place.RecordPlace.{RecordPlace}
 use Rattle.bgp_json.proofs.Shallow.{header_shallow, message_shallow}
-use Rattle.bgp_json_laws.specs.Laws.{IsPacket, IsPlace}
+use Rattle.bgp_json_laws.specs.Lines.{IsPacket, IsPlace}
 use Rattle.bgp_json_laws.proofs.Decimals.{HasDecimals, HaveDecimals, of_array, of_both, of_number, of_object}
 use Rattle.bgp_json_laws.proofs.Lookups.{of_key}
 use Rattle.bgp_json_laws.proofs.MessageDecimals.{of_members}
@@ -115,9 +113,10 @@ type_small header are = let small = bytes_of header are 18 in omega (arith, smal
 
 header_decimals : (place : Place) (faults : HeaderFaults) (header octets : List ℕ) → IsPlace place → AreOctets header → HasDecimals (header_json place faults header octets)
 header_decimals place faults header octets is are =
-    of_typed (codes "fault") place (header_members faults header octets) is
-    (of_array fault_json Small (λ n small. (of_number 1 (omega arith), (of_number n small, (tt, tt)))) (fault_subcodes faults) (subcodes_small faults),
-    (of_number (length_of header) (length_small header are), (of_number (type_of header) (type_small header are), (tt, tt))))
+    of_typed (codes "fault") place (header_members faults header octets) is (
+      of_array fault_json Small (λ n small. (of_number 1 (omega arith), (of_number n small, (tt, tt)))) (fault_subcodes faults) (subcodes_small faults),
+      (of_number (length_of header) (length_small header are), (of_number (type_of header) (type_small header are), (tt, tt))),
+    )
 
 pub header_printed : (place : Place) (faults : HeaderFaults) (header octets : List ℕ) → IsPlace place → AreOctets header → IsPrinted (header_json place faults header octets)
 header_printed place faults header octets is are = record { decimals = header_decimals place faults header octets is are; shallow = header_shallow place faults header octets }

@@ -1,12 +1,9 @@
 -- Lines of values whose numbers are in decimal: a line has one line feed, at its end, and determines
 -- its value.
-use Rattle.std.proofs.Common.{◌≡◌, ◌∙◌, ◌++◌, ◌+◌, ◌/◌, ◌%◌, ◌==◌, ◌&&◌, ◌||◌, ◌<◌, ◌≤◌, ◌^◌, ℕ, Bool, true, false, not, List, [], ◌∷◌, Some, codes, append-nil, append_assoc, cond, nat_le, nat_lt, refl, sym, ap, arith, inl, inr}
-use Rattle.std.specs.Fmt.{decimal}
-use Rattle.std.specs.List.{flat_map}
+use Rattle.std.proofs.Common.{◌≡◌, ◌∙◌, ◌++◌, ◌+◌, ◌/◌, ◌%◌, ◌==◌, ◌&&◌, ◌||◌, ◌≤◌, ℕ, Bool, true, false, not, List, [], ◌∷◌, codes, append-nil, append_assoc, cond, nat_lt, refl, sym, ap, arith, inl, inr}
 use Rattle.std.specs.Prelude.{⊤}
 use Rattle.std.specs.Char.{digit_char}
-use Rattle.std.proofs.lemmas.Bool.{and_from, cases_Bool, cond_both, eqb-true, le-leb, leb-true, ltb-false, ltb-true, ne_eqb, not_from_false, or_cases}
-use Rattle.std.proofs.lemmas.Bool.Decides.{nat_tests}
+use Rattle.std.proofs.lemmas.Bool.{and_from, cond_both, eqb-true, ltb-false, ltb-true, ne_eqb, not_from_false, or_cases}
 use Rattle.std.proofs.lemmas.Option.{same_Some}
 use mathlib.Core.List.{append_cancel_left}
 use Rattle.json.specs.Json.{Json, Items, Members, null, boolean, number, string, array, object, no_items, item, no_members, member, document, max_depth}

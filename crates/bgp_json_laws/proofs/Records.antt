@@ -1,6 +1,6 @@
 -- Records whose objects are equal are equal; and so are those with one line, and lists of them with
 -- one text.
-use Rattle.std.proofs.Common.{◌≡◌, ◌∙◌, ◌++◌, ◌+◌, ◌<◌, ◌≤◌, ◌^◌, ℕ, suc, Bool, true, false, List, [], ◌∷◌, All, Option, None, Some, append-nil, append_assoc, bytes_eq, codes, length, map, refl, sym, ap, ap₂, subst, arith, inl, inr}
+use Rattle.std.proofs.Common.{◌≡◌, ◌⊎◌, ◌∙◌, ◌++◌, ◌+◌, ◌<◌, ◌^◌, ℕ, Bool, true, false, List, [], ◌∷◌, All, Option, None, Some, append-nil, append_assoc, bytes_eq, codes, length, refl, sym, ap, ap₂, subst, arith, inl, inr}
 use Rattle.std.proofs.lemmas.Bool.{both_ways}
 use Rattle.std.proofs.lemmas.List.{length-append}
 use Rattle.std.proofs.lemmas.List.Elements.{All-head, All-tail}
@@ -11,9 +11,8 @@ use Rattle.bgp_prefix.specs.Shown.{ShownRecord, Received as In, Sent as Out, Cha
 use Rattle.bgp_prefix.specs.declared.session.Session.{Session}
 use Rattle.bgp_wire.specs.Header.{header_of, limit_with}
 use Rattle.bgp_wire.specs.Octets.{AreOctets}
-use Rattle.bgp_wire.specs.declared.header.HeaderFaults.{HeaderFaults}
 use Rattle.bgp_wire.specs.declared.header.Limit.{Limit}
-use Rattle.bgp_text.specs.Message.{Message, Says, open_message, malformed_open_message, update_message, malformed_update_message, notification_message, keepalive_message}
+use Rattle.bgp_text.specs.Message.{Message, open_message, malformed_open_message, update_message, malformed_update_message, notification_message, keepalive_message}
 use Rattle.bgp_names.specs.States.{state_name}
 use Rattle.bgp_names.proofs.OneName.{one_name}
 use Rattle.bgp_names.specs.States.{state_names}
@@ -25,18 +24,18 @@ use Rattle.bgp_json_values.specs.Objects.{number_of}
 use Rattle.bgp_json.specs.Object.{json_line, typed}
 use Rattle.bgp_json.specs.Others.{change_json, change_members, header_members}
 use Rattle.bgp_json.specs.Place.{direction_json, direction_text, packet_members, place_members, record_members}
-use Rattle.bgp_json.specs.RecordJson.{ArePlacedLines, IsMessageJson, IsMessageJsonOf, IsPlacedLine, IsShownJson, place_at}
+use Rattle.bgp_json.specs.RecordJson.{ArePlacedLines, IsMessageJson, IsPlacedLine, IsShownJson, place_at}
 use Rattle.bgp_json.specs.declared.place.Place.{Place}
-use Rattle.bgp_json.specs.declared.place.Place.TheVariants.{InStream, InRecord}
+use Rattle.bgp_json.specs.declared.place.Place.TheVariants.{InRecord}
 use Rattle.bgp_json.specs.declared.place.RecordPlace.{RecordPlace}
 use Rattle.bgp_json.proofs.Shallow.{change_shallow}
-use Rattle.bgp_json_laws.specs.Laws.{IsPacket, IsPlacedRecord, IsShown, shown_in}
-use Rattle.bgp_json_laws.proofs.Decimals.{of_both, of_number, of_object}
+use Rattle.bgp_json_laws.specs.Lines.{IsPacket, IsPlacedRecord, IsShown, shown_in}
+use Rattle.bgp_json_laws.proofs.Decimals.{of_both, of_object}
 use Rattle.bgp_json_laws.proofs.Lookups.{at_object, of_key, text_of, value_at}
 use Rattle.bgp_json_laws.proofs.Messages.{in_parts, kind_of, members_of}
 use Rattle.bgp_json_laws.proofs.Objects.{object_printed, record_decimals, same_object}
 use Rattle.bgp_json_laws.proofs.Places.{differ}
-use Rattle.bgp_json_laws.proofs.Printing.{IsPrinted, same_first_line, same_line}
+use Rattle.bgp_json_laws.proofs.Printing.{IsPrinted, same_first_line}
 use Rattle.bgp_json_laws.proofs.Texts.{same_number_json}
 
 -- ---- the parts of an object
@@ -47,6 +46,7 @@ record Shape (place : Place) (value : Json) : Type 0 where
   members : List (List ℕ × Json)
   is_typed : value ≡ typed kind (place_members place ++ members)
   apart : bytes_eq (codes "change") kind ≡ false
+  accepted : bytes_eq (codes "refused") kind ≡ false
 
 no_change : (message : Message) → bytes_eq (codes "change") (kind_of message) ≡ false
 no_change (open_message fields) = refl
@@ -56,10 +56,18 @@ no_change malformed_update_message = refl
 no_change (notification_message code subcode detail) = refl
 no_change keepalive_message = refl
 
+no_refusal : (message : Message) → bytes_eq (codes "refused") (kind_of message) ≡ false
+no_refusal (open_message fields) = refl
+no_refusal (malformed_open_message fault) = refl
+no_refusal (update_message parts) = refl
+no_refusal malformed_update_message = refl
+no_refusal (notification_message code subcode detail) = refl
+no_refusal keepalive_message = refl
+
 shape : (reading : Reading) (limit : Limit) (place : Place) (octets : List ℕ) (value : Json) → IsMessageJson reading limit place octets value → Shape place value
 shape reading limit place octets value h = elim h [
-  | inl a ↦ record { kind = kind_of a.1.0; members = members_of reading octets a.1.0; is_typed = a.1.2 ∙ in_parts reading place octets a.1.0; apart = no_change a.1.0 }
-  | inr a ↦ record { kind = codes "fault"; members = header_members a.1.0 (header_of octets) octets; is_typed = a.1.2; apart = refl }
+  | inl a ↦ record { kind = kind_of a.1.0; members = members_of reading octets a.1.0; is_typed = a.1.2 ∙ in_parts reading place octets a.1.0; apart = no_change a.1.0; accepted = no_refusal a.1.0 }
+  | inr a ↦ record { kind = codes "fault"; members = header_members a.1.0 (header_of octets) octets; is_typed = a.1.2; apart = refl; accepted = refl }
 ]
 
 direction_behind : (packet : Option ℕ) (direction : Json) (ms : List (List ℕ × Json))
@@ -184,9 +192,11 @@ first_record session another before earlier as2 also number place placed other l
     let v = shown_printed session before as2 number placed.packet placed.shown h.0 small is.packet is.shown h.1 in
     let w = shown_printed another earlier also place other.packet other.shown k.0 fits too.packet too.shown k.1 in
     let lines : json_line h.0 ++ rest ≡ json_line k.0 ++ others = sym (ap (λ (l : List ℕ). l ++ rest) h.2) ∙ e ∙ ap (λ (l : List ℕ). l ++ others) k.2 in
-    let same = same_first_line h.0 k.0 rest others v w lines in
-    (same_shown session another before earlier as2 also number place placed.packet other.packet placed.shown other.shown h.0 is.shown too.shown h.1
-    (subst (λ (j : Json). IsShownJson another earlier also place other.packet other.shown j) (sym same.0) k.1), same.1)
+    let same = same_first_line h.0 k.0 rest others v w lines in (
+      same_shown session another before earlier as2 also number place placed.packet other.packet placed.shown other.shown h.0 is.shown too.shown h.1
+          (subst (λ (j : Json). IsShownJson another earlier also place other.packet other.shown j) (sym same.0) k.1),
+      same.1,
+    )
 
 pub same_record_line : (session another : Session) (before earlier : Before) (as2 also : Bool) (number place : ℕ) (placed other : PlacedRecord) (line : List ℕ)
     → number < 2 ^ 64 → place < 2 ^ 64 → IsPlacedRecord placed → IsPlacedRecord other
@@ -201,22 +211,61 @@ some_line v rest e =
     let none = ap length e in
     omega (arith, none, length-append (print (json_tokens v) ++ codes "\n") rest, length-append (print (json_tokens v)) (codes "\n"))
 
-none_or_some : (session : Session) (before : Before) (as2 : Bool) (number : ℕ) (placed : PlacedRecord) (line rest text : List ℕ) → IsPlacedLine session before as2 number placed line
-    → text ≡ line ++ rest → text ≡ [] → ⊥
-none_or_some session before as2 number placed line rest text h is none = some_line h.0 rest (sym (ap (λ (l : List ℕ). l ++ rest) h.2) ∙ sym is ∙ none)
+-- ---- and what is refused behind them
+
+abbrev pub type_in : Json → List ℕ
+type_in j = text_of (value_at (codes "type") j)
+
+-- nothing, or the line of a refusal
+abbrev pub IsEnd : List ℕ → Type 0
+IsEnd last = (last ≡ []) ⊎ ((value : Json) × IsPrinted value × (type_in value ≡ codes "refused") × (last ≡ json_line value))
+
+message_accepted : (reading : Reading) (limit : Limit) (place : RecordPlace) (direction : Direction) (octets : List ℕ) (value : Json)
+    → IsMessageJson reading limit (InRecord place direction) octets value → type_in value ≡ codes "refused" → ⊥
+message_accepted reading limit place direction octets value h e =
+    let s = shape reading limit (InRecord place direction) octets value h in
+    let kind : codes "refused" ≡ s.kind = sym e ∙ kind_in place direction value s in
+    both_ways (bytes_eq (codes "refused") s.kind) s.accepted (subst (λ (k : List ℕ). bytes_eq (codes "refused") k ≡ true) kind refl)
+
+shown_accepted : (session : Session) (before : Before) (as2 : Bool) (number : ℕ) (packet : Option ℕ) (shown : ShownRecord) (value : Json)
+    → IsShownJson session before as2 number packet shown value → type_in value ≡ codes "refused" → ⊥
+shown_accepted session before as2 number packet (In second octets) value h e = message_accepted h.0 (limit_with session.extended) (place_at number second packet) Received octets value h.2 e
+shown_accepted session before as2 number packet (Out second octets) value h e = message_accepted h.0 (limit_with session.extended) (place_at number second packet) Sent octets value h.2 e
+shown_accepted session before as2 number packet (Changed second old new) value h e =
+    differ (codes "change") (codes "refused") refl refl (sym (ap (λ (j : Json). text_of (value_at (codes "type") j)) h) ∙ e)
+
+-- the line of a record isn't the end
+end_or_record : (session : Session) (before : Before) (as2 : Bool) (number : ℕ) (placed : PlacedRecord) (last line more : List ℕ) → number < 2 ^ 64 → IsPlacedRecord placed
+    → IsEnd last → IsPlacedLine session before as2 number placed line → last ≡ line ++ more → ⊥
+end_or_record session before as2 number placed last line more small is end h e = elim end [
+  | inl none ↦ some_line h.0 more (sym (ap (λ (l : List ℕ). l ++ more) h.2) ∙ sym e ∙ none)
+  | inr some ↦
+      let lines : json_line some.0 ++ [] ≡ json_line h.0 ++ more = append-nil (json_line some.0) ∙ sym some.3 ∙ e ∙ ap (λ (l : List ℕ). l ++ more) h.2 in
+      let same = same_first_line some.0 h.0 [] more some.1 (shown_printed session before as2 number placed.packet placed.shown h.0 small is.packet is.shown h.1) lines in
+      shown_accepted session before as2 number placed.packet placed.shown h.0 h.1 (sym (ap type_in same.0) ∙ some.2)
+]
+
+pub same_ended : (session another : Session) (before earlier : Before) (as2 also : Bool) (number place : ℕ) (records others : List PlacedRecord) (text texts last ending : List ℕ)
+    → number + length records < 2 ^ 64 → place + length others < 2 ^ 64 → All IsPlacedRecord records → All IsPlacedRecord others → IsEnd last → IsEnd ending
+    → ArePlacedLines session before as2 number records text → ArePlacedLines another earlier also place others texts → text ++ last ≡ texts ++ ending
+    → shown_in records ≡ shown_in others
+same_ended session another before earlier as2 also number place [] [] text texts last ending small fits all too end ends h k e = refl
+same_ended session another before earlier as2 also number place [] (other ∷ others) text texts last ending small fits all too end ends h k e =
+    let line : last ≡ k.0 ++ (k.1 ++ ending) = sym (ap (λ (l : List ℕ). l ++ last) h) ∙ e ∙ ap (λ (l : List ℕ). l ++ ending) k.4 ∙ append_assoc k.0 k.1 ending in
+    absurd (end_or_record another earlier also place other last k.0 (k.1 ++ ending) (omega arith) (All-head IsPlacedRecord other others too) end k.2 line)
+same_ended session another before earlier as2 also number place (placed ∷ records) [] text texts last ending small fits all too end ends h k e =
+    let line : ending ≡ h.0 ++ (h.1 ++ last) = sym (ap (λ (l : List ℕ). l ++ ending) k) ∙ sym e ∙ ap (λ (l : List ℕ). l ++ last) h.4 ∙ append_assoc h.0 h.1 last in
+    absurd (end_or_record session before as2 number placed ending h.0 (h.1 ++ last) (omega arith) (All-head IsPlacedRecord placed records all) ends h.2 line)
+same_ended session another before earlier as2 also number place (placed ∷ records) (other ∷ others) text texts last ending small fits all too end ends h k e =
+    let whole : h.0 ++ (h.1 ++ last) ≡ k.0 ++ (k.1 ++ ending) = sym (ap (λ (l : List ℕ). l ++ last) h.4 ∙ append_assoc h.0 h.1 last) ∙ e ∙ (ap (λ (l : List ℕ). l ++ ending) k.4 ∙ append_assoc k.0 k.1 ending) in
+    let first = first_record session another before earlier as2 also number place placed other h.0 k.0 (h.1 ++ last) (k.1 ++ ending) (omega arith) (omega arith)
+    (All-head IsPlacedRecord placed records all) (All-head IsPlacedRecord other others too) h.2 k.2 whole in
+    ap₂ ◌∷◌ first.0
+    (same_ended session another (before_behind placed.shown before) (before_behind other.shown earlier) as2 also (number + 1) (place + 1) records others h.1 k.1 last ending (omega arith) (omega arith)
+    (All-tail IsPlacedRecord placed records all) (All-tail IsPlacedRecord other others too) end ends h.3 k.3 first.1)
 
 pub same_records : (session another : Session) (before earlier : Before) (as2 also : Bool) (number place : ℕ) (records others : List PlacedRecord) (text : List ℕ)
     → number + length records < 2 ^ 64 → place + length others < 2 ^ 64 → All IsPlacedRecord records → All IsPlacedRecord others
     → ArePlacedLines session before as2 number records text → ArePlacedLines another earlier also place others text → shown_in records ≡ shown_in others
-same_records session another before earlier as2 also number place [] [] text small fits all too h k = refl
-same_records session another before earlier as2 also number place [] (other ∷ others) text small fits all too h k =
-    absurd (none_or_some another earlier also place other k.0 k.1 text k.2 k.4 h)
-same_records session another before earlier as2 also number place (placed ∷ records) [] text small fits all too h k =
-    absurd (none_or_some session before as2 number placed h.0 h.1 text h.2 h.4 k)
-same_records session another before earlier as2 also number place (placed ∷ records) (other ∷ others) text small fits all too h k =
-    let first = first_record session another before earlier as2 also number place placed other h.0 k.0 h.1 k.1 (omega arith) (omega arith)
-    (All-head IsPlacedRecord placed records all) (All-head IsPlacedRecord other others too) h.2 k.2 (sym h.4 ∙ k.4) in
-    ap₂ ◌∷◌ first.0
-    (same_records session another (before_behind placed.shown before) (before_behind other.shown earlier) as2 also (number + 1) (place + 1) records others h.1 (omega arith) (omega arith)
-    (All-tail IsPlacedRecord placed records all) (All-tail IsPlacedRecord other others too) h.3
-    (subst (λ (t : List ℕ). ArePlacedLines another (before_behind other.shown earlier) also (place + 1) others t) (sym first.1) k.3))
+same_records session another before earlier as2 also number place records others text small fits all too h k =
+    same_ended session another before earlier as2 also number place records others text text [] [] small fits all too (inl refl) (inl refl) h k refl

@@ -34,10 +34,10 @@ use Rattle.bgp_json_laws.proofs.Texts.{IsOctet, bytes_of}
 -- ---- the parts are octets
 
 -- of two lists, one after the other
-front_are : (xs ys : List ℕ) → AreOctets (xs ++ ys) → AreOctets xs
+pub front_are : (xs ys : List ℕ) → AreOctets (xs ++ ys) → AreOctets xs
 front_are xs ys are = subst AreOctets (take_at xs ys (length xs) refl) (All-take IsOctet (length xs) (xs ++ ys) are)
 
-back_are : (xs ys : List ℕ) → AreOctets (xs ++ ys) → AreOctets ys
+pub back_are : (xs ys : List ℕ) → AreOctets (xs ++ ys) → AreOctets ys
 back_are xs ys are = subst AreOctets (drop_at xs ys (length xs) refl) (All-drop IsOctet (length xs) (xs ++ ys) are)
 
 one_attribute : (a : Attribute) → AreOctets (attribute_octets a) → IsAttribute a

@@ -1,13 +1,10 @@
 -- Numbers in the values of capabilities and attributes are in decimal.
-use Rattle.std.proofs.Common.{◌≡◌, ◌++◌, ◌%◌, ◌||◌, ◌==◌, ◌<◌, ◌^◌, ℕ, Bool, true, false, List, [], ◌∷◌, All, Option, Some, None, codes, drop, if◌then◌else◌, length, slice_index, sym, subst, arith, inl, inr}
-use Rattle.std.proofs.lemmas.Bool.{cases_Bool}
+use Rattle.std.proofs.Common.{◌≡◌, ◌%◌, ◌==◌, ◌<◌, ◌^◌, ℕ, Bool, true, false, List, Option, Some, None, drop, if◌then◌else◌, slice_index, subst, arith}
 use Rattle.std.proofs.lemmas.Option.{cond_some, none-some}
 use Rattle.std.proofs.lemmas.List.Elements.{All-drop}
 use Rattle.byteorder.specs.Endian.{big_number}
-use Rattle.json.specs.Json.{Json}
 use Rattle.bgp_wire.specs.Octets.{AreOctets}
 use Rattle.bgp_open.specs.Triplet.{Triplet}
-use Rattle.bgp_attr.specs.Field.{Attribute}
 use Rattle.bgp_attr.specs.Segments.{WireSegment, number_width}
 use Rattle.bgp_values.specs.AttributeValue as attribute
 use Rattle.bgp_values.specs.AttributeValue.{AttributeValue, address_value, aggregator_value, as4_path_value, atomic_value, attribute_value, is_address_type, is_number_type, items_value, metric_value, number_value, origin_value, path_value}
@@ -91,8 +88,14 @@ tells_value code =
 pub of_capability : (c : Triplet) → IsTriplet c → HasDecimals (capability_json c)
 of_capability c is =
     let small = is.code in
-    of_object (capability_members c) (of_number c.code (omega (arith, small)), (tt, of_value capability_value_json spelled_capability (capability_value c.code c.value) c.value
-    (λ a e. tells_value c.code c.value a is.value e)))
+    of_object (capability_members c) (
+      of_number c.code (omega (arith, small)),
+      (
+        tt,
+        of_value capability_value_json spelled_capability (capability_value c.code c.value) c.value
+            (λ a e. tells_value c.code c.value a is.value e),
+      ),
+    )
 
 -- ---- attributes, but for routes
 

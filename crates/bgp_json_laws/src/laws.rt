@@ -1,7 +1,7 @@
 //! Laws of objects, each on a function that does nothing.
 
-ghost use Rattle.bgp_json_laws.specs.Laws.{AttributesDiffer, CapabilitiesDiffer, MessagesDiffer};
-ghost use Rattle.bgp_json_laws.specs.Laws.{ObjectsDiffer, RecordLinesDiffer, RecordTextsDiffer};
+ghost use Rattle.bgp_json_laws.specs.Laws.{AttributesDiffer, CapabilitiesDiffer};
+ghost use Rattle.bgp_json_laws.specs.Laws.{MessagesDiffer, ObjectsDiffer};
 
 /// States that two different capabilities have different objects (RFC 5492, 4).
 pub fn each_capability_has_its_object()
@@ -20,14 +20,7 @@ pub fn each_message_has_its_object()
     ensures { MessagesDiffer }
 {}
 
-/// States that the object of a message, or of a header with faults in a record, determines its
-/// octets.
+/// States the same of what the record of a message has: a message, or a header with faults.
 pub fn each_object_has_its_octets()
     ensures { ObjectsDiffer }
-{}
-
-/// States that the lines of records determine what these show, each line and the whole text.
-pub fn each_record_has_its_line()
-    ensures lines { RecordLinesDiffer }
-    ensures texts { RecordTextsDiffer }
 {}
