@@ -11,8 +11,8 @@ use Rattle.bgp_tool.specs.declared.session_options.SessionOptions.{SessionOption
 use Rattle.bgp_tool.specs.declared.stream_options.StreamOptions.{StreamOptions}
 use Rattle.bgp_json_laws.specs.Lines.{IsShown}
 
--- Two streams end alike and have the same frames and, behind these, the same header: where the
--- first fault is one of a header, nothing behind that header is in the text. Else they are the same.
+-- Two streams end alike, with the same frames and behind these the same header: if that has faults,
+-- nothing behind it is in the text. Else the streams are the same.
 pub record AreSame (stream another : List ℕ) (frames others : List (List ℕ)) (rest left : List ℕ)
     (status state : ℕ) : Type 0 where
   pub ends_alike : status ≡ state

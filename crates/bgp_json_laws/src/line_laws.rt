@@ -9,15 +9,15 @@ pub fn each_frame_has_its_line()
     ensures { FrameLinesDiffer }
 {}
 
-/// States that the lines of records determine what these show: each line does, and so does a text of
-/// any number of them.
+/// States that the lines of records determine what these show: each line does, and so does a text
+/// of any number of them.
 pub fn each_record_has_its_line()
     ensures lines { RecordLinesDiffer }
     ensures texts { RecordTextsDiffer }
 {}
 
-/// States that the text of a stream determines the stream: all of it, or up to the first header with
-/// faults, with that header.
+/// States that the text of a stream determines the stream: all of it, or up to the first header
+/// with faults, with that header.
 pub fn each_stream_has_its_text()
     ensures { StreamsDiffer }
 {}
