@@ -1,3 +1,4 @@
+pub mod SameMessages
 pub mod Firsts
 pub mod FirstOpens
 pub mod OneFraming

@@ -2,6 +2,7 @@
 pub mod Values
 pub mod FirstOpen
 pub mod Offered
+pub mod SameMessages
 pub mod Notified
 pub mod Outline
 pub mod Once

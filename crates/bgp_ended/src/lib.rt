@@ -17,6 +17,7 @@ mod notified;
 mod offered;
 mod opens;
 mod outline;
+mod same_messages;
 mod stretch;
 
 pub use ended::{Ended, How, Outline};
@@ -25,4 +26,5 @@ pub use how_text::put_how;
 pub use laws::each_connection_has_one_outline;
 pub use offered::{framing_by, with_both_offers};
 pub use outline::outline_of;
+pub use same_messages::finds_the_same;
 pub use stretch::{EndedStretch, ended_in};

@@ -2,6 +2,7 @@
 
 use crate::answer::answer_to;
 use crate::file::File;
+use crate::objects::compare_objects;
 use crate::repeated::repeated;
 use hex::FromHexError;
 use std::alloc::{AllocError, Global};
@@ -94,11 +95,26 @@ pub(crate) fn compare<R: Print + AllocGlobal>(rt: &R, case: &Case<'_>) -> io::Re
     if !is_so(rt, case, &file)? || !is_so(rt, case, &File::read_by_octets(case.file))? {
         return Ok(None);
     }
+    if !is_read_from_json(rt, case, &file)? {
+        return Ok(None);
+    }
     let count = judged_again(rt.alloc(), case, &file)?;
     if count.is_none() {
         println!(rt; "case {} is judged otherwise", case.name)?;
     }
     Ok(count)
+}
+
+/// Whether an answer of `judge` in JSON reads back as its answer in text.
+fn is_read_from_json<R: Print + AllocGlobal>(
+    rt: &R,
+    case: &Case<'_>,
+    file: &File<'_>,
+) -> io::Result<bool> {
+    if !case.words.starts_with("judge") || case.words.contains("--json") {
+        return Ok(true);
+    }
+    compare_objects(rt, case.words, file)
 }
 
 /// How many verdicts of `bgp check` are those of `bgp judge` with the options that `--settings`

@@ -44,6 +44,7 @@ mod examples;
 mod explained;
 mod file;
 mod lacking;
+mod objects;
 mod repeated;
 mod runs;
 mod session;

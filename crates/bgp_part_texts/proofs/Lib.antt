@@ -1,0 +1,9 @@
+mod Clear
+mod Faults
+mod Fields
+mod NotificationParts
+mod OfferWords
+mod OpenParts
+mod Pieces
+mod Shown
+mod UpdateParts

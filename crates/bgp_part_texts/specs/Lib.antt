@@ -1,0 +1,5 @@
+pub mod OneText
+pub mod Updates
+pub mod Opens
+pub mod Notifications
+pub mod OwnFaults
