@@ -1,0 +1,5 @@
+pub mod Values
+pub mod Tellers
+pub mod Puts
+pub mod Printed
+mod Texts
