@@ -7,9 +7,10 @@ use Rattle.std.specs.Map.{keys_of}
 use Rattle.std.specs.Ordering.{nat_cmp}
 use Rattle.packets.specs.Packet.{Recorded}
 use Rattle.mrt.specs.declared.sink.Sink as sinks
-use Rattle.bgp_text.specs.Lines.{Writes}
-use Rattle.bgp_text.specs.declared.lines.Lines.{Lines}
-use Rattle.bgp_text.proofs.Pieces.{Joins, and_then}
+use Rattle.bgp_text.proofs.Pieces.{Joins}
+use Rattle.bgp_check_lines.specs.Lines.{PutsLines}
+use Rattle.bgp_check_lines.specs.declared.check_lines.CheckLines.{CheckLines}
+use Rattle.bgp_check_lines.proofs.Puts.{then_lines}
 use Rattle.bgp_check_tool.specs.declared.options.CheckOptions.{CheckOptions}
 use Rattle.bgp_check_text.specs.declared.tally.Tally.{Tally}
 use Rattle.bgp_prefix.specs.declared.session.Session.{Session}
@@ -60,22 +61,22 @@ firsts_more firsts [] one = refl
 firsts_more firsts (refusal ∷ later) one = firsts_more (with_first firsts refusal) later one
 
 -- the blocks of the first entries are put, and these are left
-pub record PutsFront {T Z : Type 0} {sink : sinks.Ghosts T} (options : CheckOptions) (packets : List Recorded) (last_packet : ℕ) (entries rest : List (ℕ × Listed Z))
-    (lines lines' : Lines T sink) (tally tally' : Tally) (firsts firsts' : List (Option Refusal)) : Type 0 where
+pub record PutsFront {Y T Z : Type 0} {sink : sinks.Ghosts T} (options : CheckOptions) (packets : List Recorded) (last_packet : ℕ) (entries rest : List (ℕ × Listed Z))
+    (lines lines' : CheckLines Y T sink) (tally tally' : Tally) (firsts firsts' : List (Option Refusal)) : Type 0 where
   pub blocks : List (ℕ × Block)
   pub told : AllByRecursion (λ (b : ℕ × Block). IsToldAt options packets last_packet b.0 b.1) blocks
   pub places : keys_of blocks ++ keys_of rest ≡ keys_of entries
   pub left : AreListed options.port packets rest
-  pub wrote : Writes lines lines' (blocks_text options.printing blocks)
+  pub wrote : PutsLines lines lines' (blocks_text options.printing blocks)
   pub tallied : tally' ≡ tally_from tally blocks
   pub added : firsts' ≡ firsts_after firsts (refusals_in blocks)
 
-pub one_more : {T Z : Type 0} {sink : sinks.Ghosts T} → Joins sink → (options : CheckOptions) (packets : List Recorded) (last_packet place : ℕ) (one : Listed Z)
-    (entries before rest : List (ℕ × Listed Z)) (lines middle lines' : Lines T sink) (tally between tally' : Tally) (firsts few firsts' : List (Option Refusal))
+pub one_more : {Y T Z : Type 0} {sink : sinks.Ghosts T} → Joins sink → (options : CheckOptions) (packets : List Recorded) (last_packet place : ℕ) (one : Listed Z)
+    (entries before rest : List (ℕ × Listed Z)) (lines middle lines' : CheckLines Y T sink) (tally between tally' : Tally) (firsts few firsts' : List (Option Refusal))
     → before ≡ (place, one) ∷ rest → PutsFront options packets last_packet entries before lines middle tally between firsts few
     → (IsListed options.port packets place one → PutsBlock options packets last_packet place middle lines' between tally' few firsts')
     → PutsFront options packets last_packet entries rest lines lines' tally tally' firsts firsts'
-one_more {T} {Z} law options packets last_packet place one entries before rest lines middle lines' tally between tally' firsts few firsts' is so_far puts =
+one_more {Y} {T} {Z} law options packets last_packet place one entries before rest lines middle lines' tally between tally' firsts few firsts' is so_far puts =
     let left : AreListed options.port packets ((place, one) ∷ rest) = subst (λ (es : List (ℕ × Listed Z)). AreListed options.port packets es) is so_far.left in
     let put = puts left.0 in
     let places : keys_of so_far.blocks ++ place ∷ keys_of rest ≡ keys_of entries =
@@ -85,7 +86,7 @@ one_more {T} {Z} law options packets last_packet place one entries before rest l
       told = all_of (λ (b : ℕ × Block). IsToldAt options packets last_packet b.0 b.1) so_far.blocks (place, put.block) so_far.told put.told;
       places = keys_with so_far.blocks (place, put.block) (keys_of rest) ∙ places;
       left = left.1;
-      wrote = subst (λ (text : List ℕ). Writes lines lines' text) (text_of (λ (b : ℕ × Block). block_text options.printing b.1) so_far.blocks (place, put.block)) (and_then law so_far.wrote put.wrote);
+      wrote = subst (λ (text : List ℕ). PutsLines lines lines' text) (text_of (λ (b : ℕ × Block). block_text options.printing b.1) so_far.blocks (place, put.block)) (then_lines law so_far.wrote put.wrote);
       tallied = put.tallied ∙ ap (λ (t : Tally). with_block t put.block) so_far.tallied ∙ tally_of tally so_far.blocks (place, put.block);
       added = put.added ∙ ap (λ (f : List (Option Refusal)). with_first f (refusal_in put.block)) so_far.added ∙ firsts_more firsts (refusals_in so_far.blocks) (refusal_in put.block)
           ∙ ap (firsts_after firsts) (sym (map-append (λ (b : ℕ × Block). refusal_in b.1) so_far.blocks ((place, put.block) ∷ [])));
@@ -134,10 +135,10 @@ unfolding IsStrictlySortedBy
 no_keys = tt
 
 -- none is put yet
-pub start_put : {T Z : Type 0} {sink : sinks.Ghosts T} (options : CheckOptions) (packets : List Recorded) (last_packet : ℕ) (entries first : List (ℕ × Listed Z)) (lines : Lines T sink) (tally : Tally)
-    (firsts : List (Option Refusal)) → first ≡ entries → AreListed options.port packets entries → Writes lines lines []
+pub start_put : {Y T Z : Type 0} {sink : sinks.Ghosts T} (options : CheckOptions) (packets : List Recorded) (last_packet : ℕ) (entries first : List (ℕ × Listed Z)) (lines : CheckLines Y T sink) (tally : Tally)
+    (firsts : List (Option Refusal)) → first ≡ entries → AreListed options.port packets entries → PutsLines lines lines []
     → PutsFront options packets last_packet first first lines lines tally tally firsts firsts
-start_put {T} {Z} options packets last_packet entries first lines tally firsts is listed wrote = record {
+start_put {Y} {T} {Z} options packets last_packet entries first lines tally firsts is listed wrote = record {
   blocks = [];
   told = tt;
   places = refl;
@@ -148,12 +149,12 @@ start_put {T} {Z} options packets last_packet entries first lines tally firsts i
 }
 
 -- all are
-pub all_put : {T Z : Type 0} {sink : sinks.Ghosts T} (options : CheckOptions) (packets : List Recorded) (talks : Talks Z) (last_packet : ℕ) (listed : BTreeMap ℕ (Listed Z))
-    (first rest : List (ℕ × Listed Z)) (lines lines' : Lines T sink) (tally tally' : Tally) (firsts firsts' : List (Option Refusal)) (lacking : Option Refusal)
+pub all_put : {Y T Z : Type 0} {sink : sinks.Ghosts T} (options : CheckOptions) (packets : List Recorded) (talks : Talks Z) (last_packet : ℕ) (listed : BTreeMap ℕ (Listed Z))
+    (first rest : List (ℕ × Listed Z)) (lines lines' : CheckLines Y T sink) (tally tally' : Tally) (firsts firsts' : List (Option Refusal)) (lacking : Option Refusal)
     → first ≡ listed.entries → rest ≡ [] → IsOrdered nat_cmp listed → (HoldsEach options.port packets talks → HasAll options.port packets (IsPlaceOf listed)) → lacking ≡ None
     → PutsFront options packets last_packet first rest lines lines' tally tally' firsts firsts'
     → PutsAll options packets talks last_packet lines lines' tally tally' firsts firsts' lacking
-all_put {T} {Z} options packets talks last_packet listed first rest lines lines' tally tally' firsts firsts' lacking is done rises all calm front =
+all_put {Y} {T} {Z} options packets talks last_packet listed first rest lines lines' tally tally' firsts firsts' lacking is done rises all calm front =
     let whole : keys_of front.blocks ≡ keys_of listed.entries =
     sym (append-nil (keys_of front.blocks)) ∙ subst (λ (es : List (ℕ × Listed Z)). keys_of front.blocks ++ keys_of es ≡ keys_of first) done front.places
     ∙ ap (λ (es : List (ℕ × Listed Z)). keys_of es) is in
@@ -174,8 +175,8 @@ at_none : (port : ℕ) (packets : List Recorded) (q : Addresses) → HasEach por
 at_none port packets q (inl theirs) = inl record { segments = theirs.segments; taken = theirs.taken; each = λ number is. in_none _ (theirs.each number is) }
 at_none port packets q (inr refused) = absurd (in_none refused.place refused.is_place)
 
-pub none_put : {T Z : Type 0} {sink : sinks.Ghosts T} (options : CheckOptions) (packets : List Recorded) (talks : Talks Z) (last_packet : ℕ) (lines : Lines T sink) (tally : Tally)
-    (firsts : List (Option Refusal)) (lacking : Option Refusal) → Writes lines lines [] → lacking ≡ Some (refusals.Memory last_packet)
+pub none_put : {Y T Z : Type 0} {sink : sinks.Ghosts T} (options : CheckOptions) (packets : List Recorded) (talks : Talks Z) (last_packet : ℕ) (lines : CheckLines Y T sink) (tally : Tally)
+    (firsts : List (Option Refusal)) (lacking : Option Refusal) → PutsLines lines lines [] → lacking ≡ Some (refusals.Memory last_packet)
     → ¬ HasAll options.port packets (λ place. ⊥) → PutsAll options packets talks last_packet lines lines tally tally firsts firsts lacking
 none_put options packets talks last_packet lines tally firsts lacking wrote lacks few = record {
   places = [];

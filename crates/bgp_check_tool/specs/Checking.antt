@@ -1,7 +1,6 @@
 -- What checking a recording writes and answers.
 use Rattle.std.specs.Prelude.{◌≡◌, ◌⊎◌, ◌+◌, ◌++◌, ℕ, Bool, true, false, List, [], ◌∷◌}
-use Rattle.std.specs.Prelude.{Option, None, Some, codes, if◌then◌else◌, map}
-use Rattle.std.specs.Fmt.{decimal}
+use Rattle.std.specs.Prelude.{Option, None, Some, if◌then◌else◌, map}
 use Rattle.std.specs.List.{AllByRecursion, Contains, flat_map}
 use Rattle.std.specs.List.Sorted.{IsStrictlySortedBy}
 use Rattle.std.specs.Map.{keys_of}
@@ -9,9 +8,10 @@ use Rattle.std.specs.Option.{option_or}
 use Rattle.std.specs.Ordering.{nat_cmp}
 use Rattle.packets.specs.Packet.{Recorded}
 use Rattle.mrt.specs.declared.sink.Sink as sinks
-use Rattle.bgp_text.specs.Lines.{Writes}
-use Rattle.bgp_text.specs.declared.lines.Lines.{Lines}
-use Rattle.bgp_tool.specs.Answer.{IsWritten}
+use Rattle.bgp_check_lines.specs.Lines.{PutsLines}
+use Rattle.bgp_check_lines.specs.Printed.{IsWrittenIn}
+use Rattle.bgp_check_lines.specs.Values.{cut_short_line, nothing_at_line}
+use Rattle.bgp_check_lines.specs.declared.check_lines.CheckLines.{CheckLines}
 use Rattle.bgp_import.specs.declared.cut_short.CutShort.{CutShort}
 use Rattle.bgp_import.specs.declared.refusal.Refusal.{Refusal}
 use Rattle.bgp_import.specs.declared.refusal.Refusal.TheVariants as refusals
@@ -46,34 +46,34 @@ refusals_in blocks = map (λ (b : ℕ × Block). refusal_in b.1) blocks
 
 -- One block was put, and is counted; its refusal is added, where it has one and none of that number
 -- is there.
-pub record PutsBlock {T : Type 0} {sink : sinks.Ghosts T} (options : CheckOptions)
-    (packets : List Recorded) (last_packet place : ℕ) (lines lines' : Lines T sink)
+pub record PutsBlock {Y T : Type 0} {sink : sinks.Ghosts T} (options : CheckOptions)
+    (packets : List Recorded) (last_packet place : ℕ) (lines lines' : CheckLines Y T sink)
     (tally tally' : Tally) (firsts firsts' : List (Option Refusal)) : Type 0 where
   pub block : Block
   pub told : IsToldAt options packets last_packet place block
-  pub wrote : Writes lines lines' (block_text options.printing block)
+  pub wrote : PutsLines lines lines' (block_text options.printing block)
   pub tallied : tally' ≡ with_block tally block
   pub added : firsts' ≡ with_first firsts (refusal_in block)
 
 -- Blocks were put at these places, and are counted; of their refusals the first of each number is
 -- added.
-pub record PutsBlocks {T : Type 0} {sink : sinks.Ghosts T} (options : CheckOptions)
-    (packets : List Recorded) (last_packet : ℕ) (places : List ℕ) (lines lines' : Lines T sink)
+pub record PutsBlocks {Y T : Type 0} {sink : sinks.Ghosts T} (options : CheckOptions)
+    (packets : List Recorded) (last_packet : ℕ) (places : List ℕ) (lines lines' : CheckLines Y T sink)
     (tally tally' : Tally) (firsts firsts' : List (Option Refusal)) : Type 0 where
   pub blocks : List (ℕ × Block)
   pub told : AllByRecursion
       (λ (b : ℕ × Block). IsToldAt options packets last_packet b.0 b.1) blocks
   pub are_places : keys_of blocks ≡ places
-  pub wrote : Writes lines lines' (blocks_text options.printing blocks)
+  pub wrote : PutsLines lines lines' (blocks_text options.printing blocks)
   pub tallied : tally' ≡ tally_from tally blocks
   pub added : firsts' ≡ firsts_after firsts (refusals_in blocks)
 
 -- The blocks of these packets were put, in the order of their places; or none, where there was no
 -- memory for a list of them: that memory was refused is no answer beside a block, nor where there
 -- is nothing to tell of.
-pub record PutsAll {T : Type 0} {sink : sinks.Ghosts T} (options : CheckOptions)
+pub record PutsAll {Y T : Type 0} {sink : sinks.Ghosts T} (options : CheckOptions)
     {Z : Type 0} (packets : List Recorded) (talks : Talks Z) (last_packet : ℕ)
-    (lines lines' : Lines T sink) (tally tally' : Tally) (firsts firsts' : List (Option Refusal))
+    (lines lines' : CheckLines Y T sink) (tally tally' : Tally) (firsts firsts' : List (Option Refusal))
     (lacking : Option Refusal) : Type 0 where
   pub places : List ℕ
   pub rise : IsStrictlySortedBy nat_cmp places
@@ -93,20 +93,15 @@ file_text (Some refusal) = refused_text refusal
 abbrev pub cut_note : Bool → Option CutShort → List ℕ
 cut_note quiet None = []
 cut_note true (Some cut) = []
-cut_note false (Some cut) =
-    codes "note: the recording is cut short in packet " ++ (decimal (cut.before + 1) ++ codes "\n")
+cut_note false (Some cut) = cut_short_line (cut.before + 1)
 
 abbrev pub with_file : Tally → Option Refusal → Tally
 with_file tally None = tally
 with_file tally (Some refusal) = with_refused tally refusal
 
 -- that no connection has this port, where nothing was told
-unfoldable pub nothing_line : ℕ → List ℕ
-nothing_line port = codes "not judged: no connection at port "
-    ++ (decimal port ++ codes " holds octets\n")
-
 abbrev pub nothing_text : ℕ → Tally → List ℕ
-nothing_text port tally = if is_empty tally then nothing_line port else []
+nothing_text port tally = if is_empty tally then nothing_at_line port else []
 
 -- that no end is judged is told where the file was read to its end, and whether more could be, if
 -- more were recorded
@@ -156,7 +151,7 @@ pub record ChecksRecording {S T : Type 0} (gives : S → S → List ℕ → Type
   pub are_firsts : firsts
       ≡ with_first (with_first (firsts_after [] (refusals_in blocks)) stopped) lacking
   pub is_nothing : nothing ≡ nothing_by options.port tally refusal
-  pub written : IsWritten takes failures
+  pub written : IsWrittenIn options.form takes failures
       (blocks_text options.printing blocks
       ++ (file_text stopped ++ (file_text lacking ++ (cut_note options.printing.quiet cut_short
       ++ (nothing_text options.port tally ++ last_text options.printing.quiet tally)))))

@@ -1,7 +1,6 @@
 -- What a verdict on an end that isn't a yes becomes, where each message may be handled as late as
 -- it can be said: it is judged once more, of records that are made so.
-use Rattle.std.specs.Prelude.{◌≡◌, ◌⊎◌, ◌++◌, ℕ, List, [], Option, None, Some, codes}
-use Rattle.std.specs.Fmt.{decimal}
+use Rattle.std.specs.Prelude.{◌≡◌, ◌⊎◌, ℕ, Bool, true, false, List, [], Option, None, Some}
 use Rattle.bgp_prefix.specs.declared.session.Session.{Session}
 use Rattle.streams.specs.declared.connection.Connection.{Connection}
 use Rattle.bgp_judge.specs.Verdict.{No, Unfinished, VerdictValue, Yes}
@@ -12,6 +11,7 @@ use Rattle.bgp_recording.specs.declared.framing.Unshown.{Unshown}
 use Rattle.bgp_orders.specs.WholeWays.{AreOfAWayOver}
 use Rattle.bgp_check.specs.Answered.{AnswerValue, IsAnswerTo, JudgedAs, Unjudged}
 use Rattle.bgp_check_tool.specs.Another.{IsYes}
+use Rattle.bgp_check_lines.specs.Values.{late_line}
 use Rattle.bgp_check_tool.specs.declared.late.Late.{Late}
 use Rattle.bgp_check_tool.specs.declared.late.Late.TheVariants as lates
 use Rattle.bgp_check_tool.specs.Made.{IsMade}
@@ -72,16 +72,11 @@ module _ (session : Session) (connection : Connection) where
 
 -- ---- how it is told
 
-abbrev pub late_name : Late → List ℕ
-late_name lates.Yes = codes "yes"
-late_name lates.Unfinished = codes "unfinished"
+abbrev pub is_late_yes : Late → Bool
+is_late_yes lates.Yes = true
+is_late_yes lates.Unfinished = false
 
 -- in an answer by records whose messages are handled within so many seconds
-unfoldable pub late_note : ℕ → Late → List ℕ
-late_note within late = codes "  note: a router that handles what it received more than "
-    ++ (decimal within ++ (codes " s late may do this: with --within 65535 the answer is "
-    ++ (late_name late ++ codes "\n")))
-
 abbrev pub late_text : ℕ → Option Late → List ℕ
 late_text within None = []
-late_text within (Some late) = late_note within late
+late_text within (Some late) = late_line within (is_late_yes late)

@@ -22,7 +22,7 @@ use Rattle.bgp_recording.specs.declared.framing.Unshown.{Unshown}
 use Rattle.bgp_import.specs.ListText.{end_of, other_side}
 use Rattle.bgp_import.specs.declared.cut_short.CutShort.{CutShort}
 use Rattle.bgp_import.specs.declared.refusal.Refusal.{Refusal}
-use Rattle.bgp_tool.specs.Answer.{IsWritten}
+use Rattle.bgp_check_lines.specs.Printed.{IsWrittenIn}
 use Rattle.bgp_check.specs.Answered.{HasFault, JudgedAs}
 use Rattle.bgp_check.specs.Configurations.{IsOf}
 use Rattle.bgp_parts.specs.Opens.{HasOwnOpen}
@@ -340,7 +340,7 @@ pub record PrintsTrue {S T : Type 0} (AreTrue : CheckOptions → List Recorded �
         (λ (b : ℕ × Block). AreTrue options packets (looked_at packets stopped) b.1) blocks
     pub lacking : Option Refusal
     pub tally : Tally
-    pub written : IsWritten takes failures
+    pub written : IsWrittenIn options.form takes failures
         (blocks_text options.printing blocks
         ++ (file_text stopped ++ (file_text lacking ++ (cut_note options.printing.quiet cut_short
         ++ (nothing_text options.port tally ++ last_text options.printing.quiet tally)))))

@@ -1,5 +1,5 @@
 -- What is left out of a recording's lines where only what isn't well is told.
-use Rattle.std.specs.Prelude.{◌≡◌, ◌⊎◌, ℕ, Bool, true, false, IsFalse, List, [], Option, Some}
+use Rattle.std.specs.Prelude.{◌≡◌, ◌⊎◌, ℕ, Bool, true, false, IsFalse, List, [], Some}
 use Rattle.std.specs.Prelude.{if◌then◌else◌}
 use Rattle.std.specs.List.{Contains, flat_map}
 use Rattle.bgp_import.specs.declared.refusal.Refusal.{Refusal}

@@ -1,16 +1,15 @@
 -- The lines of an end.
-use Rattle.std.specs.Prelude.{◌++◌, Bool, ℕ, zero, suc, List, [], Option, None, Some, codes}
-use Rattle.std.specs.Fmt.{decimal}
-use Rattle.bgp_clock.specs.When.{short_text}
+use Rattle.std.specs.Prelude.{◌++◌, Bool, ℕ, List, [], Option, None, Some, codes}
 use Rattle.bgp_judge.specs.Verdict.{No, Unfinished, VerdictValue, Yes}
 use Rattle.segments.specs.declared.found.Endpoint.{Endpoint}
 use Rattle.bgp_check.specs.declared.peer_as.PeerAs.{PeerAs}
 use Rattle.bgp_check.specs.Answered.{AnswerValue, JudgedAs, Unjudged}
+use Rattle.bgp_check_lines.specs.Values.{all_orders_line, another_order_line, in_made_order_line}
+use Rattle.bgp_check_lines.specs.Values.{one_order_line}
 use Rattle.bgp_check_text.specs.Text.{no_line, not_judged_line, unfinished_line, yes_lines}
 use Rattle.bgp_check_text.specs.Unshown.{unshown_notes}
 use Rattle.bgp_check_text.specs.declared.end.EndName.{EndName}
 use Rattle.bgp_why.specs.Endpoint.{endpoint_text}
-use Rattle.bgp_why.specs.Place.{place_text}
 use Rattle.bgp_why.specs.declared.endpoint.Endpoint.{Endpoint as NamedEnd}
 use Rattle.bgp_why.specs.declared.place.Place.{Place}
 use Rattle.bgp_check_tool.specs.declared.another.Order.{Order}
@@ -48,58 +47,30 @@ deed_by deed None = deed
 deed_by deed (Some other) = other
 
 -- what the impossible record of the made order shows was done, if that isn't told so
-unfoldable pub in_made_line : ℕ → List ℕ → Place → List ℕ
-in_made_line first deed place =
-    codes "  in the order of bgp import, " ++ (place_text place ++ (codes ", "
-    ++ (short_text first place.second place.micro ++ (codes ": " ++ (deed ++ codes "\n")))))
-
 abbrev pub in_made_text : ℕ → List ℕ → Option Place → List ℕ
 in_made_text first deed None = []
-in_made_text first deed (Some place) = in_made_line first deed place
+in_made_text first deed (Some place) = in_made_order_line first deed place
 
--- so many messages are delayed in the order that is judged
-unfoldable pub delayed_text : ℕ → List ℕ
-delayed_text count = codes "; messages delayed in it: " ++ decimal count
-
--- unless there are none
-abbrev pub delayed_if : ℕ → List ℕ
-delayed_if zero = []
-delayed_if (suc count) = delayed_text (suc count)
-
--- that order is one of those that the packets may allow
-unfoldable pub note_line : ℕ → List ℕ
-note_line count =
-    codes "  note: packets do not show when a router handled what it received, "
-    ++ (codes "so this is one possible order" ++ (delayed_if count ++ codes "\n"))
-
--- a no in all orders has no such line
+-- one order was judged, of those that the packets may allow: a no in all orders has no such line
 abbrev pub order_text : ℕ → Option NoOrder → List ℕ
-order_text count None = note_line count
+order_text count None = one_order_line count
 order_text count (Some found) = []
 
 -- ---- a yes
 
 -- in another order than the made one
-unfoldable pub another_line : List ℕ
-another_line = codes "  note: the order that bgp import makes is not a yes: "
-    ++ codes "another that these packets allow is\n"
-
 abbrev pub another_text : Order → List ℕ
 another_text orders.Made = []
-another_text orders.Another = another_line
+another_text orders.Another = another_order_line
 another_text orders.All = []
 
 -- ---- what is unfinished
 
 -- over all orders, where the made one is a no
-unfoldable pub over_all_line : List ℕ
-over_all_line = codes "  note: the order that bgp import makes is a no: "
-    ++ codes "over all that these packets allow it is unfinished\n"
-
 abbrev pub unfinished_text : Order → ℕ → List ℕ
-unfinished_text orders.Made put_off = note_line put_off
-unfinished_text orders.Another put_off = note_line put_off
-unfinished_text orders.All put_off = over_all_line
+unfinished_text orders.Made put_off = one_order_line put_off
+unfinished_text orders.Another put_off = one_order_line put_off
+unfinished_text orders.All put_off = all_orders_line
 
 -- ---- all of it
 

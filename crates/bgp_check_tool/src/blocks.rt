@@ -1,7 +1,7 @@
 //! The lines of a connection, and of two addresses of whose connections none can be told.
 
 ghost use Rattle.std.specs.Prelude.{◌≡◌};
-ghost use Rattle.bgp_text.specs.Lines.{Writes};
+ghost use Rattle.bgp_check_lines.specs.Lines.{PutsLines};
 ghost use Rattle.bgp_check_tool.specs.Blocks.{BothEnds, OneEnd};
 ghost use Rattle.bgp_check_tool.specs.Blocks.{are_left_out, block_of, block_text, both_text};
 ghost use Rattle.bgp_check_tool.specs.Blocks.{ends_text, kept_lines, neither_text};
@@ -11,34 +11,36 @@ ghost use Rattle.bgp_ended.specs.Values.{outline_value};
 use crate::connection::{BothTold, EndsTold};
 use crate::ending::Told;
 use crate::lines::{put_one_end, put_told};
+use bgp_check_lines::{CheckLines, put_connection, put_refused_connection};
 use bgp_check_text::{Printing, is_left_out};
 use bgp_ended::Outline;
 use bgp_import::{Refusal, end_of, other_side};
-use bgp_list::{put_connection, put_refused_connection};
 use bgp_prefix::Session;
-use bgp_text::Lines;
 use mrt::Sink;
 use std::alloc::Allocator;
 use streams::Opening;
 
 /// The lines of an end, unless it is left out.
-fn put_kept<W: Sink, A: Allocator>(lines: &mut Lines<'_, W>, told: &Told<'_, A>, printing: Printing)
-    ensures { Writes lines.old lines.new (kept_lines printing (told_value told.now)) }
+fn put_kept<A: Allocator + Copy, W: Sink>(
+    lines: &mut CheckLines<'_, A, W>,
+    told: &Told<'_, A>,
+    printing: Printing,
+)
+    ensures { PutsLines lines.old lines.new (kept_lines printing (told_value told.now)) }
 {
     if is_left_out(printing.quiet, &told.answer) {
-        lines.put(b"");
-    } else {
-        put_told(lines, told, printing.routes);
+        return;
     }
+    put_told(lines, told, printing.routes);
 }
 
 /// The lines of both ends of a connection.
-fn put_both<W: Sink, A: Allocator>(
-    lines: &mut Lines<'_, W>,
+fn put_both<A: Allocator + Copy, W: Sink>(
+    lines: &mut CheckLines<'_, A, W>,
     both: &BothTold<'_, A>,
     printing: Printing,
 )
-    ensures { Writes lines.old lines.new
+    ensures { PutsLines lines.old lines.new
         (both_text printing (told_value both.now.opener) (told_value both.now.other)) }
 {
     put_kept(lines, &both.opener, printing);
@@ -55,8 +57,12 @@ fn are_left_out<A: Allocator>(both: &BothTold<'_, A>, printing: Printing) -> boo
 }
 
 /// The lines of the ends of a connection whose two ends are one.
-fn put_neither<W: Sink>(lines: &mut Lines<'_, W>, session: &Session, opening: Opening)
-    ensures { Writes lines.old lines.new (neither_text session.now opening) }
+fn put_neither<A: Allocator + Copy, W: Sink>(
+    lines: &mut CheckLines<'_, A, W>,
+    session: &Session,
+    opening: Opening,
+)
+    ensures { PutsLines lines.old lines.new (neither_text session.now opening) }
 {
     let from = opening.opened_by;
     put_one_end(lines, end_of(from, session, opening));
@@ -64,30 +70,29 @@ fn put_neither<W: Sink>(lines: &mut Lines<'_, W>, session: &Session, opening: Op
 }
 
 /// The lines of a connection with both ends, unless neither is told.
-fn put_both_block<W: Sink, A: Allocator>(
-    lines: &mut Lines<'_, W>,
+fn put_both_block<A: Allocator + Copy, W: Sink>(
+    lines: &mut CheckLines<'_, A, W>,
     session: &Session,
     opening: Opening,
     both: &BothTold<'_, A>,
     printing: Printing,
 )
-    ensures { Writes lines.old lines.new (block_text printing (BothEnds session.now opening
+    ensures { PutsLines lines.old lines.new (block_text printing (BothEnds session.now opening
         (outline_value both.now.outline) both.now.opener_octets both.now.other_octets
         (told_value both.now.opener) (told_value both.now.other))) }
 {
     if are_left_out(both, printing) {
-        lines.put(b"");
-    } else {
-        let (first, second) = (both.opener_octets, both.other_octets);
-        put_connection(lines, session, opening, &both.outline, first, second);
-        put_both(lines, both, printing);
+        return;
     }
+    let (first, second) = (both.opener_octets, both.other_octets);
+    put_connection(lines, session, opening, &both.outline, first, second);
+    put_both(lines, both, printing);
 }
 
 /// The lines of a connection whose two ends are one, by what is known of it and how many octets
 /// either sent, unless they are left out.
-fn put_one_block<W: Sink>(
-    lines: &mut Lines<'_, W>,
+fn put_one_block<A: Allocator + Copy, W: Sink>(
+    lines: &mut CheckLines<'_, A, W>,
     session: &Session,
     opening: Opening,
     outline: &Outline<'_>,
@@ -95,26 +100,25 @@ fn put_one_block<W: Sink>(
     second: usize,
     printing: Printing,
 )
-    ensures { Writes lines.old lines.new (block_text printing
+    ensures { PutsLines lines.old lines.new (block_text printing
         (OneEnd session.now opening (outline_value outline.now) first second)) }
 {
     if printing.quiet {
-        lines.put(b"");
-    } else {
-        put_connection(lines, session, opening, outline, first, second);
-        put_neither(lines, session, opening);
+        return;
     }
+    put_connection(lines, session, opening, outline, first, second);
+    put_neither(lines, session, opening);
 }
 
 /// The lines of a connection that isn't refused.
-fn put_ends<W: Sink, A: Allocator>(
-    lines: &mut Lines<'_, W>,
+fn put_ends<A: Allocator + Copy, W: Sink>(
+    lines: &mut CheckLines<'_, A, W>,
     session: &Session,
     opening: Opening,
     told: &EndsTold<'_, A>,
     printing: Printing,
 )
-    ensures { Writes lines.old lines.new (ends_text printing session.now opening told.now) }
+    ensures { PutsLines lines.old lines.new (ends_text printing session.now opening told.now) }
 {
     match told {
         EndsTold::Both(both) => put_both_block(lines, session, opening, both, printing),
@@ -125,14 +129,14 @@ fn put_ends<W: Sink, A: Allocator>(
 }
 
 /// The lines of a connection.
-pub(crate) fn put_block<W: Sink, A: Allocator>(
-    lines: &mut Lines<'_, W>,
+pub(crate) fn put_block<A: Allocator + Copy, W: Sink>(
+    lines: &mut CheckLines<'_, A, W>,
     session: &Session,
     opening: Opening,
     told: &Result<EndsTold<'_, A>, Refusal>,
     printing: Printing,
 )
-    ensures { Writes lines.old lines.new
+    ensures { PutsLines lines.old lines.new
         (block_text printing (block_of session.now opening told.now)) }
 {
     match told {

@@ -2,7 +2,7 @@
 
 ghost use Rattle.std.specs.Prelude.{◌≡◌, ◌<◌, ◌^◌, List, Some};
 ghost use Rattle.packets.specs.Packet.{Recorded};
-ghost use Rattle.bgp_text.specs.Lines.{Writes};
+ghost use Rattle.bgp_check_lines.specs.Lines.{PutsLines};
 ghost use Rattle.bgp_check_tool.specs.Checking.{ChecksRecording, PutsAll, PutsBlock, file_text};
 ghost use Rattle.bgp_check_tool.specs.Checking.{cut_note, nothing_by, with_file};
 ghost use Rattle.bgp_check_tool.specs.Judging.{settings_by};
@@ -16,14 +16,13 @@ use crate::counted::Counted;
 use crate::nothing::{NothingJudged, put_nothing};
 use crate::options::CheckOptions;
 use arrayvec::ArrayVec;
+use bgp_check_lines::{CheckLines, put_last, put_refused, put_refused_between};
 use bgp_check_text::{Settings, Tally};
 use bgp_import::{
     CutShort, Listed, Refusal, Talks, cut_short_at, listed_in, refused, selection_of, take_all,
 };
 use bgp_judge::Tracker;
-use bgp_list::{NUMBERS, put_refused, put_refused_between};
-use bgp_text::Lines;
-use bgp_tool::hand_over;
+use bgp_list::NUMBERS;
 use mrt::{Sink, Source};
 use packets::Reader;
 use std::alloc::{AllocError, Allocator};
@@ -52,7 +51,7 @@ fn put_listed<A: Allocator + Copy, T: Tracker<A>, W: Sink>(
     last_packet: u64,
     packet: u64,
     listed: &Listed<'_, A>,
-    lines: &mut Lines<'_, W>,
+    lines: &mut CheckLines<'_, A, W>,
     counted: &mut Counted,
 )
     requires told { CanBeTold listed.now }
@@ -88,7 +87,7 @@ fn put_all<A: Allocator + Copy, T: Tracker<A>, W: Sink>(
     options: &CheckOptions,
     talks: &Talks<A>,
     last_packet: u64,
-    lines: &mut Lines<'_, W>,
+    lines: &mut CheckLines<'_, A, W>,
     counted: &mut Counted,
 ) -> Option<Refusal>
     requires holds { (packets : List Recorded) × HoldsSome options.now.port packets talks.now }
@@ -113,9 +112,13 @@ fn put_all<A: Allocator + Copy, T: Tracker<A>, W: Sink>(
 }
 
 /// Puts why the file is refused, if it is, and counts that.
-fn put_file<W: Sink>(lines: &mut Lines<'_, W>, counted: &mut Counted, refusal: Option<Refusal>)
+fn put_file<A: Allocator + Copy, W: Sink>(
+    lines: &mut CheckLines<'_, A, W>,
+    counted: &mut Counted,
+    refusal: Option<Refusal>,
+)
     requires { AreApart counted.old.refusals.items }
-    ensures wrote { Writes lines.old lines.new (file_text refusal) }
+    ensures wrote { PutsLines lines.old lines.new (file_text refusal) }
     ensures tallied { counted.new.tally ≡ with_file counted.old.tally refusal }
     ensures added { counted.new.refusals.items ≡ with_first counted.old.refusals.items refusal }
     ensures apart { AreApart counted.new.refusals.items }
@@ -125,30 +128,35 @@ fn put_file<W: Sink>(lines: &mut Lines<'_, W>, counted: &mut Counted, refusal: O
             put_refused(lines, refusal);
             counted.add_refusal(refusal);
         }
-        None => lines.put(b""),
+        None => {}
     }
 }
 
 /// Puts that the file was cut short behind this packet, unless what is well is left out.
-fn put_cut_behind<W: Sink>(lines: &mut Lines<'_, W>, quiet: bool, before: u64)
-    ensures { Writes lines.old lines.new (cut_note quiet (Some (record { before = before }))) }
+fn put_cut_behind<A: Allocator + Copy, W: Sink>(
+    lines: &mut CheckLines<'_, A, W>,
+    quiet: bool,
+    before: u64,
+)
+    ensures { PutsLines lines.old lines.new (cut_note quiet (Some (record { before = before }))) }
 {
     if quiet {
-        lines.put(b"");
-    } else {
-        lines.put(b"note: the recording is cut short in packet ");
-        lines.put_decimal(before as u128 + 1);
-        lines.put(b"\n");
+        return;
     }
+    bgp_check_lines::put_cut_short(lines, before);
 }
 
 /// Puts that the file was cut short, where it was, unless what is well is left out.
-fn put_cut_short<W: Sink>(lines: &mut Lines<'_, W>, quiet: bool, cut_short: Option<CutShort>)
-    ensures { Writes lines.old lines.new (cut_note quiet cut_short) }
+fn put_cut_short<A: Allocator + Copy, W: Sink>(
+    lines: &mut CheckLines<'_, A, W>,
+    quiet: bool,
+    cut_short: Option<CutShort>,
+)
+    ensures { PutsLines lines.old lines.new (cut_note quiet cut_short) }
 {
     match cut_short {
         Some(CutShort { before }) => put_cut_behind(lines, quiet, before),
-        None => lines.put(b""),
+        None => {}
     }
 }
 
@@ -195,7 +203,7 @@ pub(crate) fn check_recording<A: Allocator + Copy, T: Tracker<A>, R: Source, W: 
     let mut talks = Talks::new(alloc, options.port);
     let stopped = take_all(&mut reader, &mut talks, source).err();
     let cut_short = cut_short_at(reader.number(), reader.is_cut_short(), stopped);
-    let mut lines = Lines::new(sink);
+    let mut lines = CheckLines::new(options.form, alloc, sink);
     let mut counted = Counted::new();
     let last_packet = reader.number();
     let told = CheckOptions {
@@ -210,8 +218,8 @@ pub(crate) fn check_recording<A: Allocator + Copy, T: Tracker<A>, R: Source, W: 
     let refusal = stopped.or(lacking);
     let Counted { tally, refusals } = counted;
     put_nothing(&mut lines, tally, options.port);
-    tally.put_last(&mut lines, quiet);
-    let status = hand_over(&mut lines, tally.status());
+    put_last(&mut lines, &tally, quiet);
+    let status = lines.finish(tally.status());
     // No effect: it ends the loan of the sink.
     lines.into_sink();
     CheckedRecording {

@@ -6,15 +6,15 @@ ghost use Rattle.bgp_check.specs.Answered.{answer_value};
 ghost use Rattle.bgp_recording.specs.Captured.{records_of};
 ghost use Rattle.bgp_recording.specs.Gathered.{IsClocked, IsCovered};
 ghost use Rattle.bgp_recording.specs.Recorded.{IsRecordedInOrder};
-ghost use Rattle.bgp_text.specs.Lines.{Writes};
+ghost use Rattle.bgp_check_lines.specs.Lines.{PutsLines};
 ghost use Rattle.bgp_check_text.specs.Settings.{are_told};
 ghost use Rattle.bgp_check_tool.specs.Judging.{AreOptionsFor, AreOptionsTo, judge_text};
 
 use crate::ending::Viewed;
 use crate::making::Made;
 use bgp_check::{Answer, Judged};
-use bgp_check_text::{JudgeOptions, judge_options, put_judge_line, told_configuration};
-use bgp_text::Lines;
+use bgp_check_lines::{CheckLines, put_repeat};
+use bgp_check_text::{JudgeOptions, judge_options, told_configuration};
 use mrt::Sink;
 use std::alloc::{AllocError, Allocator};
 
@@ -80,11 +80,14 @@ fn options_for<A: Allocator + Copy>(
 }
 
 /// Puts the line with the options of `bgp judge`, where they are told.
-pub(crate) fn put_judge<W: Sink>(lines: &mut Lines<'_, W>, judge: Option<JudgeOptions>)
-    ensures { Writes lines.old lines.new (judge_text judge) }
+pub(crate) fn put_judge<A: Allocator + Copy, W: Sink>(
+    lines: &mut CheckLines<'_, A, W>,
+    judge: Option<JudgeOptions>,
+)
+    ensures { PutsLines lines.old lines.new (judge_text judge) }
 {
     match judge {
-        Some(options) => put_judge_line(lines, &options),
-        None => lines.put(b""),
+        Some(options) => put_repeat(lines, &options),
+        None => {}
     }
 }

@@ -4,9 +4,9 @@ ghost use Rattle.std.specs.Prelude.{◌≡◌, ◌⊎◌, IfOk};
 ghost use Rattle.bgp_check.specs.Answered.{answer_value};
 ghost use Rattle.bgp_judge.specs.Verdict.{verdict_value};
 ghost use Rattle.bgp_recording.specs.Gathered.{IsClocked, IsCovered};
-ghost use Rattle.bgp_text.specs.Lines.{Writes};
+ghost use Rattle.bgp_check_lines.specs.Lines.{PutsLines};
 ghost use Rattle.bgp_check_tool.specs.Late.{IsAnsweredByAnother, IsAnsweredLater, IsLate};
-ghost use Rattle.bgp_check_tool.specs.Late.{IsLateFor, IsLateOf, late_by, late_name, late_note};
+ghost use Rattle.bgp_check_tool.specs.Late.{IsLateFor, IsLateOf, late_by};
 ghost use Rattle.bgp_check_tool.specs.Late.{late_over, late_text};
 
 use crate::another::{Searched, is_unfinished, search_orders};
@@ -14,9 +14,9 @@ use crate::ending::Viewed;
 use crate::making::made_of;
 use crate::options::CheckOptions;
 use bgp_check::{Answer, check_end};
+use bgp_check_lines::{CheckLines, put_late as put_later};
 use bgp_judge::{Tracker, Verdict};
 use bgp_recording::Framings;
-use bgp_text::Lines;
 use mrt::Sink;
 use std::alloc::{AllocError, Allocator};
 
@@ -153,33 +153,16 @@ pub(crate) fn late_of<A: Allocator + Copy, T: Tracker<A>>(
     }
 }
 
-/// The word of a verdict.
-fn late_name(late: Late) -> &'static str
-    ensures { result.now ≡ late_name late }
-{
-    match late {
-        Late::Yes => "yes",
-        Late::Unfinished => "unfinished",
-    }
-}
-
-/// Puts what a router may do that handles a message later than within so many seconds.
-fn put_late_note<W: Sink>(lines: &mut Lines<'_, W>, within: u16, late: Late)
-    ensures { Writes lines.old lines.new (late_note within late) }
-{
-    lines.put(b"  note: a router that handles what it received more than ");
-    lines.put_decimal(within);
-    lines.put(b" s late may do this: with --within 65535 the answer is ");
-    lines.put(late_name(late).as_bytes());
-    lines.put(b"\n");
-}
-
 /// Puts that, where the verdict becomes another.
-pub(crate) fn put_late<W: Sink>(lines: &mut Lines<'_, W>, within: u16, late: Option<Late>)
-    ensures { Writes lines.old lines.new (late_text within late) }
+pub(crate) fn put_late<A: Allocator + Copy, W: Sink>(
+    lines: &mut CheckLines<'_, A, W>,
+    within: u16,
+    late: Option<Late>,
+)
+    ensures { PutsLines lines.old lines.new (late_text within late) }
 {
     match late {
-        Some(late) => put_late_note(lines, within, late),
-        None => lines.put(b""),
+        Some(late) => put_later(lines, within, late == Late::Yes),
+        None => {}
     }
 }

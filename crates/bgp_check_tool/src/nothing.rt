@@ -1,12 +1,13 @@
 //! What is told where no end is judged.
 
 ghost use Rattle.std.specs.Prelude.{◌≡◌};
-ghost use Rattle.bgp_text.specs.Lines.{Writes};
-ghost use Rattle.bgp_check_tool.specs.Checking.{nothing_line, nothing_text};
+ghost use Rattle.bgp_check_lines.specs.Lines.{PutsLines};
+ghost use Rattle.bgp_check_tool.specs.Checking.{nothing_text};
 
+use bgp_check_lines::{CheckLines, put_nothing_at};
 use bgp_check_text::Tally;
-use bgp_text::Lines;
 use mrt::Sink;
+use std::alloc::Allocator;
 use std::fmt;
 
 /// That no end in a recording is judged.
@@ -35,22 +36,15 @@ impl fmt::Display for NothingJudged {
     }
 }
 
-/// The line of a recording that has no connection at this port.
-fn put_no_connection<W: Sink>(lines: &mut Lines<'_, W>, port: u16)
-    ensures { Writes lines.old lines.new (nothing_line port) }
-{
-    lines.put(b"not judged: no connection at port ");
-    lines.put_decimal(port);
-    lines.put(b" holds octets\n");
-}
-
 /// That there is no connection at this port, where nothing was told.
-pub(crate) fn put_nothing<W: Sink>(lines: &mut Lines<'_, W>, tally: Tally, port: u16)
-    ensures { Writes lines.old lines.new (nothing_text port tally) }
+pub(crate) fn put_nothing<A: Allocator + Copy, W: Sink>(
+    lines: &mut CheckLines<'_, A, W>,
+    tally: Tally,
+    port: u16,
+)
+    ensures { PutsLines lines.old lines.new (nothing_text port tally) }
 {
     if tally.is_empty() {
-        put_no_connection(lines, port);
-    } else {
-        lines.put(b"");
+        put_nothing_at(lines, port);
     }
 }

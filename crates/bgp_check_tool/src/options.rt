@@ -1,6 +1,7 @@
 //! How a recording is checked.
 
 use bgp_check_text::{Printing, Settings};
+use bgp_verdict_lines::VerdictForm;
 
 /// How a recording is checked.
 #[derive(Clone, Copy, Debug)]
@@ -14,4 +15,6 @@ pub struct CheckOptions {
     /// Whether the `bgp judge` command is told that reproduces a verdict, if the file is read to
     /// its end.
     pub settings: Settings,
+    /// In which form all is told.
+    pub form: VerdictForm,
 }

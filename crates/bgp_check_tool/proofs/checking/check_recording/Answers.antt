@@ -2,9 +2,10 @@ use Rattle.std.proofs.Common.{◌≡◌, ◌∙◌, ◌⊎◌, ◌+◌, ℕ, Lis
 use Rattle.std.specs.List.Sorted.{IsStrictlySortedBy}
 use Rattle.std.specs.Map.{keys_of}
 use Rattle.std.specs.Ordering.{nat_cmp}
-use Rattle.bgp_tool.proofs.CaptureJudged.{is_written}
 use Rattle.bgp_text.proofs.Fresh.{IsFresh}
-use Rattle.bgp_text.proofs.Pieces.{Joins, and_nothing, and_then}
+use Rattle.bgp_text.proofs.Pieces.{Joins}
+use Rattle.bgp_check_lines.proofs.Printed.{printed_in}
+use Rattle.bgp_check_lines.proofs.Puts.{then_lines}
 use Rattle.bgp_check_text.specs.declared.tally.Tally.{Tally}
 use Rattle.bgp_check_tool.specs.Checking.{PutsAll, refusals_in, tally_from, with_file}
 use Rattle.bgp_check_tool.specs.Judging.{options_by}
@@ -15,7 +16,8 @@ use Rattle.bgp_import.specs.Reading.{IsMemory, IsReadTo, TakesAll, cut_short_at,
 use Rattle.bgp_import.specs.Talks.{HoldsEach, HoldsSome}
 use Rattle.bgp_import.specs.declared.refusal.Refusal.{Refusal}
 use Rattle.bgp_import.specs.declared.refusal.Refusal.TheVariants as refusals
-use Rattle.bgp_check_tool.proofs.Texts.{coded_as, told_as}
+use Rattle.bgp_check_lines.proofs.SameSink.{same_sink}
+use Rattle.bgp_check_tool.proofs.Texts.{coded_as}
 use Rattle.bgp_check_tool.proofs.AllTold.{as_many, no_block_lacks, nothing_lacks, some_block_lacks}
 use Rattle.bgp_check_tool.proofs.checking.check_recording.Goals as goal
 
@@ -32,7 +34,7 @@ put_all-lacking-requires g c =
 pub returns : goal.returns
 returns g c =
     let law : Joins g.W.Sink = record { joined = g.met.W.Sink.joined } in
-    let fresh : IsFresh c.new-lines.result = record { empty = c.new-lines.ensures.empty; calm = c.new-lines.ensures.fresh } in
+    let fresh : IsFresh c.new-lines.result.lines = record { empty = c.new-lines.ensures.empty; calm = c.new-lines.ensures.fresh } in
     let taken = subst (λ (p : ℕ). TakesAll g.R.Source.gives g.R.Source.has_ended p c.args.source.now c.take_all.new.source c.take_all.new.talks c.take_all.new.reader.number c.take_all.new.reader.is_cut c.take_all.result)
     c.new-talks.ensures.holds.right.is_port c.take_all.ensures.takes in
     let options = c.args.options.now in
@@ -41,7 +43,10 @@ returns g c =
     c.new-counted.result.tally c.put_all-lacking.new.counted.tally c.new-counted.result.refusals.items c.put_all-lacking.new.counted.refusals.items c.put_all-lacking.result)
     same_settings (c.put_all-lacking.ensures.puts taken.packets taken.some) in
     let puts = all.puts in
-    let wrote = and_nothing law (and_then law puts.wrote (and_then law c.put_file.ensures.wrote (and_then law c.put_file-2.ensures.wrote (and_then law c.put_cut_short.ensures (and_then law c.put_nothing.ensures c.put_last.ensures))))) c.hand_over-status.ensures.writes in
+    let wrote = then_lines law puts.wrote (then_lines law c.put_file.ensures.wrote (then_lines law c.put_file-2.ensures.wrote (then_lines law c.put_cut_short.ensures (then_lines law c.put_nothing.ensures c.put_last.ensures)))) in
+    let one = same_sink c.new-lines.result.lines c.put_last.new.lines.lines c.new-lines.result.teller c.put_last.new.lines.teller _ wrote.puts in
+    let one_sink = c.finish-status.ensures.writes.same_sink ∙ (one ∙ c.new-lines.ensures.same) in
+    let ended = rw c.status.ensures at c.finish-status.ensures.told in
     let same = c.err-stopped.ensures.value in
     let last = c.number-last_packet.ensures ∙ taken.many ∙ ap (looked_at taken.packets) (sym same) in
     let last' = c.number.ensures ∙ taken.many ∙ ap (looked_at taken.packets) (sym same) in
@@ -70,6 +75,6 @@ returns g c =
           ∙ ap (λ (f : List (Option Refusal)). with_first f c.put_all-lacking.result) (c.put_file.ensures.added ∙ ap (λ (f : List (Option Refusal)). with_first f c.err-stopped.result)
           (puts.added ∙ ap (λ (f : List (Option Refusal)). firsts_after f (refusals_in puts.blocks)) c.new-counted.ensures.refusals));
       is_nothing = c.nothing_by.ensures;
-      written = is_written c.new-lines.result c.hand_over-status.new.lines c.args.sink.now _ fresh c.new-lines.ensures.now (search rules)
-          _ _ _ wrote c.hand_over-status.ensures.none (coded_as _ _ _ _ c.code.ensures (told_as _ _ _ _ c.hand_over-status.ensures.told c.status.ensures));
+      written = printed_in law options.form c.new-lines.result c.put_last.new.lines c.finish-status.new.self.lines c.args.sink.now _ _ _ _ fresh c.new-lines.ensures.now (search rules)
+          c.new-lines.ensures.starts wrote c.finish-status.ensures.writes c.finish-status.ensures.none (coded_as _ _ _ _ c.code.ensures ended);
     }

@@ -1,5 +1,6 @@
 use Rattle.std.proofs.Common.{refl, rules}
-use Rattle.bgp_text.proofs.Pieces.{Joins, nothing_yet}
+use Rattle.bgp_text.proofs.Pieces.{Joins}
+use Rattle.bgp_check_lines.proofs.Puts.{no_lines}
 use Rattle.bgp_import.proofs.ListedSoFar.{can_be_told}
 use Rattle.bgp_check_tool.proofs.OneMore.{all_put, none_put, one_listed, one_more, start_put}
 use Rattle.bgp_check_tool.proofs.checking.put_all.Goals as goal
@@ -8,7 +9,7 @@ pub loop-packet-init : goal.loop-packet-init
 loop-packet-init g c = record {
   front = λ packets right.
       start_put c.args.options.now packets c.args.last_packet c.in-Ok.listed.entries _ c.args.lines.now c.args.counted.now.tally c.args.counted.now.refusals.items (search rules)
-      (c.in-Ok.ensures.listed c.args.options.now.port packets right) (nothing_yet g.W.Sink g.met.W.Sink.nothing c.args.lines.now.outlet c.args.lines.now.held.items);
+      (c.in-Ok.ensures.listed c.args.options.now.port packets right) (no_lines g.met.W.Sink.nothing c.args.lines.now);
   apart = c.requires.apart;
 }
 
@@ -35,7 +36,7 @@ loop-packet-preserved g c =
 pub returns-in-Err-clause-puts : goal.returns-in-Err-clause-puts
 returns-in-Err-clause-puts g c = λ packets right.
     none_put c.args.options.now packets c.args.talks.now c.args.last_packet c.args.lines.now c.args.counted.now.tally c.args.counted.now.refusals.items _
-    (nothing_yet g.W.Sink g.met.W.Sink.nothing c.args.lines.now.outlet c.args.lines.now.held.items) refl
+    (no_lines g.met.W.Sink.nothing c.args.lines.now) refl
     (c.in-Err.ensures.some c.args.options.now.port packets right)
 
 pub returns-clause-puts : goal.returns-clause-puts

@@ -3,7 +3,6 @@ use Rattle.bgp_prefix.specs.Shown.{ShownRecord}
 use Rattle.mrt.specs.Reader.{shown_of}
 use Rattle.bgp_check.specs.Answered.{answer_value}
 use Rattle.bgp_check.specs.WatchedEnd.{IsWatchedFor}
-use Rattle.bgp_check_text.specs.Reached.{IsReached, reached_value}
 use Rattle.bgp_watch.specs.Front.{front_value}
 use Rattle.bgp_check_tool.proofs.ending.reached_on.Goals as goal
 

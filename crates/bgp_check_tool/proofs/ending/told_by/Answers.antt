@@ -13,7 +13,7 @@ use Rattle.bgp_check_text.specs.declared.options.JudgeOptions.{JudgeOptions}
 use Rattle.bgp_check_tool.specs.declared.late.Late.{Late}
 use Rattle.bgp_check_tool.specs.declared.orders.NoOrder.{NoOrder}
 use Rattle.bgp_check_tool.specs.Another.{IsYes, number_in}
-use Rattle.bgp_check_tool.specs.Elsewhere.{IsOther, no_place}
+use Rattle.bgp_check_tool.specs.Elsewhere.{no_place}
 use Rattle.bgp_check_tool.specs.Instead.{AreInstead}
 use Rattle.bgp_check_tool.specs.Judging.{AreOptionsTo}
 use Rattle.bgp_check_tool.specs.Late.{IsLate}

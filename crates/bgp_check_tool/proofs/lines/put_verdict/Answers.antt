@@ -1,5 +1,6 @@
-use Rattle.std.proofs.Common.{◌≡◌, ◌∙◌, List, ℕ, Option, ap, subst}
-use Rattle.bgp_text.proofs.Pieces.{Joins, and_then}
+use Rattle.std.proofs.Common.{◌≡◌, ◌∙◌, List, ℕ, ap}
+use Rattle.bgp_text.proofs.Pieces.{Joins}
+use Rattle.bgp_check_lines.proofs.Puts.{then_lines}
 use Rattle.bgp_check_tool.specs.Text.{deed_by}
 use Rattle.bgp_check_tool.specs.Told.{told_value}
 use Rattle.bgp_check_tool.proofs.lines.put_verdict.Goals as goal
@@ -9,7 +10,7 @@ returns-in-Yes g c =
     let law : Joins g.W.Sink = record { joined = g.met.W.Sink.joined } in
     let named = rw c.name_of-name.ensures at c.put_yes.ensures in
     let endings = rw c.as_slice-endings.ensures.value at named in
-    rw c.in-Yes.is (and_then law endings c.put_after_yes.ensures)
+    rw c.in-Yes.is (then_lines law endings c.put_after_yes.ensures)
 
 pub returns-in-No : goal.returns-in-No
 returns-in-No g c =
@@ -19,10 +20,10 @@ returns-in-No g c =
     c.deed_by-deed.ensures ∙ ap (λ (d : List ℕ). deed_by d told.other) c.deed.ensures in
     let named = rw c.name_of-name.ensures at c.put_no.ensures in
     let said = rw deed at named in
-    rw c.in-No.is (and_then law said c.put_after_no.ensures)
+    rw c.in-No.is (then_lines law said c.put_after_no.ensures)
 
 pub returns-in-Unfinished : goal.returns-in-Unfinished
 returns-in-Unfinished g c =
     let law : Joins g.W.Sink = record { joined = g.met.W.Sink.joined } in
     let named = rw c.name_of-name.ensures at c.put_unfinished.ensures in
-    rw c.in-Unfinished.is (and_then law named c.put_after_unfinished.ensures)
+    rw c.in-Unfinished.is (then_lines law named c.put_after_unfinished.ensures)

@@ -1,9 +1,0 @@
-use Rattle.bgp_check_tool.specs.Text.{another_line}
-use Rattle.bgp_text.proofs.Pieces.{Joins, and_then}
-use Rattle.bgp_check_tool.proofs.lines.put_another.Goals as goal
-
-pub returns : goal.returns
-unfolding another_line
-returns g c =
-    let law : Joins g.W.Sink = record { joined = g.met.W.Sink.joined } in
-    and_then law c.put.ensures c.put-2.ensures
