@@ -1,0 +1,13 @@
+use Rattle.std.proofs.Common.{refl}
+use Rattle.bgp_ended.specs.Values.{outline_value}
+use Rattle.bgp_list.specs.Lines as lists
+use Rattle.bgp_check_lines.specs.Values.{Lists, value_text}
+use Rattle.bgp_check_lines.proofs.Puts.{in_text, one_line}
+use Rattle.bgp_check_lines.proofs.listed.put_connection.Goals as goal
+
+pub returns-in-Text : goal.returns-in-Text
+returns-in-Text g c = in_text c.args.lines.now _ _ c.in-Text.is c.put_connection.ensures
+
+pub returns-in-Json : goal.returns-in-Json
+unfolding value_text
+returns-in-Json g c = one_line c.args.lines.now _ _ _ (Lists (lists.Octets c.args.session.now c.args.opening (outline_value c.args.outline.now) c.args.first c.args.second)) _ c.in-Json.is (c.put_listed.ensures) refl

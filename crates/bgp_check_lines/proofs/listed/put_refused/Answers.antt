@@ -1,0 +1,11 @@
+use Rattle.std.proofs.Common.{refl}
+use Rattle.bgp_check_lines.specs.Values.{RefusesFile, value_text}
+use Rattle.bgp_check_lines.proofs.Puts.{in_text, one_line}
+use Rattle.bgp_check_lines.proofs.listed.put_refused.Goals as goal
+
+pub returns-in-Text : goal.returns-in-Text
+returns-in-Text g c = in_text c.args.lines.now _ _ c.in-Text.is c.put_refused.ensures
+
+pub returns-in-Json : goal.returns-in-Json
+unfolding value_text
+returns-in-Json g c = one_line c.args.lines.now _ _ _ (RefusesFile c.args.refusal) _ c.in-Json.is (c.put_refused-in-Json.ensures) refl

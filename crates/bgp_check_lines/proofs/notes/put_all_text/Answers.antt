@@ -1,0 +1,9 @@
+use Rattle.bgp_text.proofs.Pieces.{Joins, and_then}
+use Rattle.bgp_check_lines.specs.Values.{all_orders_line}
+use Rattle.bgp_check_lines.proofs.notes.put_all_text.Goals as goal
+
+pub returns : goal.returns
+unfolding all_orders_line
+returns g c =
+    let law : Joins g.W.Sink = record { joined = g.met.W.Sink.joined } in
+    and_then law c.put.ensures c.put-2.ensures

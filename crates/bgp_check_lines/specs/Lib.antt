@@ -1,0 +1,4 @@
+pub mod Values
+pub mod Teller
+pub mod Lines
+pub mod Printed
