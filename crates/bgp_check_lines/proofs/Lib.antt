@@ -2,5 +2,5 @@ pub mod Values
 pub mod Tellers
 pub mod Puts
 pub mod Printed
-mod Texts
 pub mod SameSink
+mod Texts
