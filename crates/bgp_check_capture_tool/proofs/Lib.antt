@@ -12,3 +12,4 @@ pub mod Headings
 pub mod Printed
 pub mod Repeated
 mod Own
+mod Quiet

@@ -11,6 +11,7 @@ pub mod Firsts
 pub mod Putting
 pub mod Checking
 pub mod Headings
+pub mod Quiet
 pub mod Headline
 pub mod Printed
 pub mod Repeated

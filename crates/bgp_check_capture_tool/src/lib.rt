@@ -23,6 +23,7 @@ mod nothing;
 mod options;
 mod part;
 mod places;
+mod quiet_laws;
 mod stretch_end;
 mod telling;
 mod told_end;
@@ -35,3 +36,4 @@ pub use laws::{
 };
 pub use nothing::NothingJudged;
 pub use options::CaptureOptions;
+pub use quiet_laws::quiet_keeps_what_is_not_well;

@@ -1,2 +1,3 @@
 mod Octets
 mod Texts
+pub mod Seen

@@ -5,7 +5,7 @@ use Rattle.std.proofs.lemmas.Bool.{eqb-true}
 use Rattle.bgp_html.specs.Escaped.{escape_octet, is_markup}
 
 -- what stands there, by which of the five octets it is
-abbrev by_tests : ℕ → (a b c d e : Bool) → List ℕ
+abbrev pub by_tests : ℕ → (a b c d e : Bool) → List ℕ
 by_tests octet a b c d e =
     if a then codes "&amp;" else
     if b then codes "&lt;" else

@@ -1,3 +1,6 @@
 -- In reading order.
 pub mod Escaped
 pub mod Escaping
+pub mod Tags
+pub mod Pieces
+pub mod Reading

@@ -1,6 +1,7 @@
 //! Laws of text in HTML, each on a function that does nothing.
 
 ghost use Rattle.bgp_html.specs.Escaped.{EscapedTextIsNoMarkup, EscapedTextIsThatTextAlone};
+ghost use Rattle.bgp_html.specs.Reading.{WordsAreSeen};
 
 /// Nothing of a text is markup: no octet of it begins or ends a tag, or ends the value of an
 /// attribute.
@@ -11,4 +12,10 @@ pub fn escaped_text_is_no_markup()
 /// Nothing of a text is lost: texts that stand there in the same octets are one text.
 pub fn escaped_text_is_that_text_alone()
     ensures { EscapedTextIsThatTextAlone }
+{}
+
+/// A reader of HTML sees the words of what is written, each once and in their order, and nothing
+/// else.
+pub fn words_are_seen()
+    ensures { WordsAreSeen }
 {}

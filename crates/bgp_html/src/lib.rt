@@ -10,7 +10,9 @@
 mod escaped;
 mod escaping;
 mod laws;
+mod tag;
 
 pub use escaped::put_escaped;
 pub use escaping::Escaping;
-pub use laws::{escaped_text_is_no_markup, escaped_text_is_that_text_alone};
+pub use laws::{escaped_text_is_no_markup, escaped_text_is_that_text_alone, words_are_seen};
+pub use tag::{Column, Mark, Tag, What, put_tag};

@@ -1,7 +1,7 @@
 //! The messages of a session as JSON, as `bgp decode --json` prints them: an object a line.
 //!
 //! What has a value ([`bgp_values`]) is put by it; the octets stand beside it if the value doesn't
-//! spell them. So an object is to determine the octets of its message; no law says so yet.
+//! spell them. So an object determines the octets of its message: `bgp_json_laws` has the law.
 //!
 //! Each line is made in memory before it is put. If memory is refused, nothing of it is put.
 #![tactic(auto)]

@@ -11,12 +11,18 @@ use json::Writer;
 use mrt::Sink;
 use std::alloc::{AllocError, Allocator};
 
-/// Starts what an object is written to.
+/// How many octets most objects have at the most.
+const LINE: usize = 1024;
+
+/// Starts what an object is written to, with room for most objects. If memory is refused for so
+/// much, the room grows as the object does.
 pub(crate) fn start<A: Allocator>(alloc: A) -> Writer<A>
     ensures before { result.before ≡ [] }
     ensures tokens { result.tokens ≡ [] }
 {
-    Writer::new(Vec::new(alloc))
+    let mut room = Vec::new(alloc);
+    let _ = room.reserve(LINE);
+    Writer::new(room)
 }
 
 /// Puts the line of what was written, or nothing if memory was refused for it.

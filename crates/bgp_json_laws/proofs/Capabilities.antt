@@ -108,7 +108,7 @@ with_domain_is : (host : List ℕ) (found : Option Counted) (a : CapabilityValue
 with_domain_is host None a e = absurd (none-some a e)
 with_domain_is host (Some domain) a e = (domain.text, (cond_some (length domain.rest == 0) (names host domain.text) a e).1)
 
-with_host_is : (found : Option Counted) (a : CapabilityValue) → with_host found ≡ Some a → (host domain : List ℕ) × (names host domain ≡ a)
+pub with_host_is : (found : Option Counted) (a : CapabilityValue) → with_host found ≡ Some a → (host domain : List ℕ) × (names host domain ≡ a)
 with_host_is None a e = absurd (none-some a e)
 with_host_is (Some host) a e = let rest = with_domain_is host.text (counted_in host.rest) a e in (host.text, rest.0, rest.1)
 

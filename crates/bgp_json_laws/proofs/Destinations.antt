@@ -65,10 +65,10 @@ a_path : (path : Option ℕ) → IsPath true path → (id : ℕ) × (path ≡ So
 a_path None is = cc is
 a_path (Some id) is = (id, refl, is.1)
 
-abbrev Fits : ℕ → Type 0
+abbrev pub Fits : ℕ → Type 0
 Fits id = id < 2 ^ 64
 
-ids_fit : (ds : List Destination) → All (IsRead true) ds → All Fits (ids_of ds)
+pub ids_fit : (ds : List Destination) → All (IsRead true) ds → All Fits (ids_of ds)
 ids_fit [] all = All-nil Fits
 ids_fit (d ∷ ds) all =
     let path = a_path d.path (All-head (IsRead true) d ds all).path in

@@ -17,3 +17,13 @@ pub mod Attributes
 pub mod Places
 pub mod Updates
 pub mod Messages
+pub mod Decimals
+pub mod ValueDecimals
+pub mod MessageDecimals
+pub mod Printing
+pub mod Objects
+pub mod Records
+pub mod Frames
+pub mod Streams
+pub mod Captures
+pub mod Visible

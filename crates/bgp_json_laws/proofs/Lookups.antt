@@ -78,6 +78,9 @@ of_key key ms = unwrap_or (valued key ms) null
 abbrev pub value_at : List ℕ → Json → Json
 value_at key j = of_key key (paired (members_of j))
 
+pub at_object : (key : List ℕ) (ms : List (List ℕ × Json)) → value_at key (object_of ms) ≡ of_key key ms
+at_object key ms = ap (of_key key) (paired_back ms)
+
 -- two lists of members don't differ by the key that one of them has
 pub not_valued : (key : List ℕ) (ms ns : List (List ℕ × Json)) (b : Json) → ms ≡ ns → valued key ms ≡ None → valued key ns ≡ Some b → ⊥
 not_valued key ms ns b e first second = none-some b (sym first ∙ ap (valued key) e ∙ second)

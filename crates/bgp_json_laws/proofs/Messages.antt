@@ -25,7 +25,7 @@ use Rattle.bgp_json_laws.proofs.Updates.{same_update}
 
 -- ---- NOTIFICATION and KEEPALIVE
 
-codes_of : (octets : List ℕ) (code subcode : ℕ) (detail : List ℕ) → AreOctets octets → IsNotification octets code subcode detail
+pub codes_of : (octets : List ℕ) (code subcode : ℕ) (detail : List ℕ) → AreOctets octets → IsNotification octets code subcode detail
     → (code < 256) × (subcode < 256) × AreOctets detail
 codes_of octets code subcode detail are is =
     let all : AreOctets (code ∷ subcode ∷ detail) = subst AreOctets is.body (All-drop IsOctet 19 octets are) in
@@ -54,7 +54,7 @@ same_keepalive octets others are too is also =
 -- ---- any message
 
 -- what an object says that it tells of
-abbrev kind_of : Message → List ℕ
+abbrev pub kind_of : Message → List ℕ
 kind_of (open_message fields) = codes "open"
 kind_of (malformed_open_message fault) = codes "malformed_open"
 kind_of (update_message parts) = codes "update"
@@ -63,7 +63,7 @@ kind_of (notification_message code subcode detail) = codes "notification"
 kind_of keepalive_message = codes "keepalive"
 
 -- its members behind the place
-abbrev members_of : Reading → List ℕ → Message → List (List ℕ × Json)
+abbrev pub members_of : Reading → List ℕ → Message → List (List ℕ × Json)
 members_of reading octets (open_message fields) =
     open_members fields ++ octets_unless (are_parameters_spelled fields.capabilities (parameters_of octets)) octets
 members_of reading octets (malformed_open_message fault) = malformed_open_members fault octets
@@ -76,7 +76,7 @@ nothing_behind : (ms : List (List ℕ × Json)) → ms ++ [] ≡ ms
 nothing_behind [] = refl
 nothing_behind (m ∷ ms) = ap (λ (l : List (List ℕ × Json)). m ∷ l) (nothing_behind ms)
 
-in_parts : (reading : Reading) (place : Place) (octets : List ℕ) (message : Message)
+pub in_parts : (reading : Reading) (place : Place) (octets : List ℕ) (message : Message)
     → message_json reading place octets message ≡ typed (kind_of message) (place_members place ++ members_of reading octets message)
 in_parts reading place octets (open_message fields) = refl
 in_parts reading place octets (malformed_open_message fault) = refl
@@ -86,7 +86,7 @@ in_parts reading place octets (notification_message code subcode detail) = refl
 in_parts reading place octets keepalive_message = ap (typed (codes "keepalive")) (sym (nothing_behind (place_members place)))
 
 -- no place is in them
-no_place : (reading : Reading) (octets : List ℕ) (message : Message) → behind_place (members_of reading octets message) ≡ members_of reading octets message
+pub no_place : (reading : Reading) (octets : List ℕ) (message : Message) → behind_place (members_of reading octets message) ≡ members_of reading octets message
 no_place reading octets (open_message fields) = refl
 no_place reading octets (malformed_open_message fault) = refl
 no_place reading octets (update_message parts) = refl
@@ -102,7 +102,7 @@ own malformed_update_message = refl
 own (notification_message code subcode detail) = refl
 own keepalive_message = refl
 
-apart : {P : Type 0} (message another : Message) → bytes_eq (kind_of message) (kind_of another) ≡ false → kind_of message ≡ kind_of another → P
+pub apart : {P : Type 0} (message another : Message) → bytes_eq (kind_of message) (kind_of another) ≡ false → kind_of message ≡ kind_of another → P
 apart message another differs e = absurd (differ (kind_of message) (kind_of another) differs (own another) e)
 
 same_opens : (octets others : List ℕ) (fields also : OpenFields) → AreOctets octets → AreOctets others → IsWellFormed octets → IsWellFormed others

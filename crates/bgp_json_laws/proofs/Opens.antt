@@ -53,17 +53,17 @@ each_of_all (parameter ∷ parameters) each =
     All-append IsTriplet (capabilities_in parameter) (flat_map capabilities_in parameters) (each_capability_in parameter (All-head IsTriplet parameter parameters each))
     (each_of_all parameters (All-tail IsTriplet parameter parameters each))
 
-each_capability : (parameters : List ℕ) → AreOctets parameters → All IsTriplet (capabilities_of parameters)
+pub each_capability : (parameters : List ℕ) → AreOctets parameters → All IsTriplet (capabilities_of parameters)
 unfolding capabilities_of
 each_capability parameters are = each_of_all (triplets_of parameters) (each_triplet parameters are)
 
 -- ---- the fields of an OPEN
 
-my_as_fits : (fields : List ℕ) → AreOctets fields → my_as_of fields < 2 ^ 64
+pub my_as_fits : (fields : List ℕ) → AreOctets fields → my_as_of fields < 2 ^ 64
 unfolding my_as_of
 my_as_fits fields are = let small = number_fits 2 (drop 1 fields) (All-drop IsOctet 1 fields are) in omega (arith, small)
 
-hold_fits : (fields : List ℕ) → AreOctets fields → hold_of fields < 2 ^ 64
+pub hold_fits : (fields : List ℕ) → AreOctets fields → hold_of fields < 2 ^ 64
 unfolding hold_of
 hold_fits fields are = let small = number_fits 2 (drop 3 fields) (All-drop IsOctet 3 fields are) in omega (arith, small)
 
@@ -71,10 +71,10 @@ id_fits : (fields : List ℕ) → AreOctets fields → id_of fields < 2 ^ 32
 unfolding id_of
 id_fits fields are = let small = number_fits 4 (drop 5 fields) (All-drop IsOctet 5 fields are) in omega (arith, small)
 
-fields_are : (octets : List ℕ) → AreOctets octets → AreOctets (fixed_fields_of octets)
+pub fields_are : (octets : List ℕ) → AreOctets octets → AreOctets (fixed_fields_of octets)
 fields_are octets are = All-take IsOctet 10 (body_of octets) (All-drop IsOctet 19 octets are)
 
-parameters_are : (octets : List ℕ) → AreOctets octets → AreOctets (parameters_of octets)
+pub parameters_are : (octets : List ℕ) → AreOctets octets → AreOctets (parameters_of octets)
 parameters_are octets are = All-drop IsOctet 10 (body_of octets) (All-drop IsOctet 19 octets are)
 
 -- the octets of an OPEN of version 4 with these numbers and these octets of parameters

@@ -48,11 +48,11 @@ same_listed name false false ds es all too e = same_plain ds es all too (ap firs
 -- ---- values as they are read
 
 -- a next hop if routes are announced, and none if they are withdrawn
-abbrev IsHopOf : Bool → Option NextHop → Type 0
+abbrev pub IsHopOf : Bool → Option NextHop → Type 0
 IsHopOf announced None = announced ≡ false
 IsHopOf announced (Some hop) = (announced ≡ true) × IsHop hop
 
-abbrev IsValue : Bool → RouteForm → RoutesValue → Type 0
+abbrev pub IsValue : Bool → RouteForm → RoutesValue → Type 0
 IsValue announced form (unicast family contents) = All (IsRead (is_identified form family)) contents.destinations × IsHopOf announced contents.next_hop
 IsValue announced form (other afi safi octets) = (afi < 2 ^ 64) × (safi < 2 ^ 64) × AreOctets octets
 
@@ -101,12 +101,12 @@ value_read announced form read value a are each e = elim (cases_Bool (nat_lt (le
   | inr long ↦ in_some_family announced form read value (family_in value) a are each (rw long at e)
 ]
 
-reach_read : (form : RouteForm) (value : List ℕ) (a : RoutesValue) → AreOctets value → reach_value form value ≡ Some a → IsValue true form a
+pub reach_read : (form : RouteForm) (value : List ℕ) (a : RoutesValue) → AreOctets value → reach_value form value ≡ Some a → IsValue true form a
 reach_read form value a are e =
     value_read true form (reach_contents (with_any_hop form)) value a are
     (λ family contents found. reach_fields form family value contents are ((reads_mp_values.reach (with_any_hop form) family value contents).1 found)) e
 
-unreach_read : (form : RouteForm) (value : List ℕ) (a : RoutesValue) → AreOctets value → unreach_value form value ≡ Some a → IsValue false form a
+pub unreach_read : (form : RouteForm) (value : List ℕ) (a : RoutesValue) → AreOctets value → unreach_value form value ≡ Some a → IsValue false form a
 unreach_read form value a are e =
     value_read false form (unreach_contents form) value a are
     (λ family contents found. unreach_fields form family value contents are ((reads_mp_values.unreach form family value contents).1 found)) e
@@ -119,7 +119,7 @@ family_by families.V4 families.V6 e = absurd (omega (arith, e))
 family_by families.V6 families.V4 e = absurd (omega (arith, e))
 family_by families.V6 families.V6 e = refl
 
-afi_fits : (family : Family) → afi_of family < 2 ^ 64
+pub afi_fits : (family : Family) → afi_of family < 2 ^ 64
 afi_fits families.V4 = omega arith
 afi_fits families.V6 = omega arith
 

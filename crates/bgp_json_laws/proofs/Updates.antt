@@ -34,10 +34,10 @@ use Rattle.bgp_json_laws.proofs.Texts.{IsOctet, bytes_of}
 -- ---- the parts are octets
 
 -- of two lists, one after the other
-front_are : (xs ys : List ℕ) → AreOctets (xs ++ ys) → AreOctets xs
+pub front_are : (xs ys : List ℕ) → AreOctets (xs ++ ys) → AreOctets xs
 front_are xs ys are = subst AreOctets (take_at xs ys (length xs) refl) (All-take IsOctet (length xs) (xs ++ ys) are)
 
-back_are : (xs ys : List ℕ) → AreOctets (xs ++ ys) → AreOctets ys
+pub back_are : (xs ys : List ℕ) → AreOctets (xs ++ ys) → AreOctets ys
 back_are xs ys are = subst AreOctets (drop_at xs ys (length xs) refl) (All-drop IsOctet (length xs) (xs ++ ys) are)
 
 one_attribute : (a : Attribute) → AreOctets (attribute_octets a) → IsAttribute a
@@ -50,14 +50,14 @@ one_attribute a are =
       value = back_are (big_bytes (length_octets a.flags) (length a.value)) a.value value;
     }
 
-each_attribute : (attributes : List Attribute) → AreOctets (flat_map attribute_octets attributes) → All IsAttribute attributes
+pub each_attribute : (attributes : List Attribute) → AreOctets (flat_map attribute_octets attributes) → All IsAttribute attributes
 each_attribute [] are = All-nil IsAttribute
 each_attribute (a ∷ attributes) are =
     All-cons IsAttribute a attributes (one_attribute a (front_are (attribute_octets a) (flat_map attribute_octets attributes) are))
     (each_attribute attributes (back_are (attribute_octets a) (flat_map attribute_octets attributes) are))
 
 -- a field with nothing behind its last attribute is its attributes
-whole_field : (field : List ℕ) (attributes : List Attribute) → AreOctets field → split_of field ≡ record { attributes = attributes; tail = None }
+pub whole_field : (field : List ℕ) (attributes : List Attribute) → AreOctets field → split_of field ≡ record { attributes = attributes; tail = None }
     → field ≡ flat_map attribute_octets attributes
 whole_field field attributes are e =
     let is = is_field field (bytes_of field are) in
@@ -75,8 +75,8 @@ section_are s are =
     let third = back_are (big_bytes 2 (length s.attributes)) (s.attributes ++ s.nlri) second in
     (front_are s.withdrawn (big_bytes 2 (length s.attributes) ++ (s.attributes ++ s.nlri)) first, front_are s.attributes s.nlri third, back_are s.attributes s.nlri third)
 
-fields_are : (octets : List ℕ) (s : Sections) → AreOctets octets → IsUpdate octets s → AreOctets s.withdrawn × AreOctets s.attributes × AreOctets s.nlri
-fields_are octets s are update = section_are s (subst AreOctets update.body (All-drop IsOctet 19 octets are))
+pub sections_are : (octets : List ℕ) (s : Sections) → AreOctets octets → IsUpdate octets s → AreOctets s.withdrawn × AreOctets s.attributes × AreOctets s.nlri
+sections_are octets s are update = section_are s (subst AreOctets update.body (All-drop IsOctet 19 octets are))
 
 abbrev sections_with : List ℕ → List ℕ → List ℕ → Sections
 sections_with withdrawn attributes nlri = record { withdrawn = withdrawn; attributes = attributes; nlri = nlri }
@@ -135,8 +135,8 @@ pub same_update : (reading other : Reading) (octets others : List ℕ) (parts al
 same_update reading other octets others parts also are too says said e =
     let s = says.sections in
     let t = said.sections in
-    let fields = fields_are octets s are says.update in
-    let fields' = fields_are others t too said.update in
+    let fields = sections_are octets s are says.update in
+    let fields' = sections_are others t too said.update in
     let list : s.attributes ≡ flat_map attribute_octets parts.attributes = whole_field s.attributes parts.attributes fields.1 says.attributes in
     let list' : t.attributes ≡ flat_map attribute_octets also.attributes = whole_field t.attributes also.attributes fields'.1 said.attributes in
     let each = each_attribute parts.attributes (subst AreOctets list fields.1) in

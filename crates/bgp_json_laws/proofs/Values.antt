@@ -69,15 +69,16 @@ one_path v w as4 =
 same_path : (v w : ℕ) (as4 also : Bool) → as4 ≡ also → Alike v w (path_value as4) (path_value also)
 same_path v w as4 also same = subst (λ (other : Bool). Alike v w (path_value as4) (path_value other)) same (one_path v w as4)
 
+by_length : (test : Bool) (rest : Option AttributeValue) (a : AttributeValue) → (if test then None else rest) ≡ Some a → rest ≡ Some a
+by_length true rest a none = absurd (none-some a none)
+by_length false rest a some = some
+
+-- a path that isn't empty
+pub behind_test : (octets : List ℕ) (a : AttributeValue) → as4_path_value octets ≡ Some a → path_value true octets ≡ Some a
+behind_test octets a is = by_length (length octets == 0) (path_value true octets) a is
+
 same_as4_path : (v w : ℕ) → Alike v w as4_path_value as4_path_value
 same_as4_path v w octets others a b are too first second e = one_path v w true octets others a b are too (behind_test octets a first) (behind_test others b second) e
-  where
-    behind_test : (octets : List ℕ) (a : AttributeValue) → as4_path_value octets ≡ Some a → path_value true octets ≡ Some a
-    behind_test octets a is = by_length (length octets == 0) (path_value true octets) is
-      where
-        by_length : (test : Bool) (rest : Option AttributeValue) → (if test then None else rest) ≡ Some a → rest ≡ Some a
-        by_length true rest none = absurd (none-some a none)
-        by_length false rest some = some
 
 same_address_value : (v w : ℕ) → Alike v w address_value address_value
 same_address_value v w =
@@ -100,7 +101,7 @@ same_atomic v w =
     let value = λ (octets : List ℕ). atomic in
     by_test v w test test value value (λ octets others are too first second e. refl)
 
-width_fits : (as4 : Bool) (octets : List ℕ) → AreOctets octets → big_number (number_width as4) octets < 2 ^ 64
+pub width_fits : (as4 : Bool) (octets : List ℕ) → AreOctets octets → big_number (number_width as4) octets < 2 ^ 64
 width_fits true octets are = fits_big 4 0 octets are (omega arith)
 width_fits false octets are = fits_big 2 0 octets are (omega arith)
 

@@ -5,3 +5,4 @@ pub mod Values
 pub mod AttributesSpelled
 pub mod CapabilitiesSpelled
 pub mod Depths
+pub mod Rooms

@@ -9,3 +9,4 @@ pub mod RoutesJson
 pub mod Unicast
 pub mod ErrorJson
 pub mod Times
+pub mod Rooms

@@ -102,6 +102,7 @@ pub fn are_spelled<A: Allocator>(
         ≡ bytes_eq (spelled_destinations destinations.now) octets.now) }
 {
     let mut spelled = Vec::new(alloc);
+    spelled.reserve(octets.len())?;
     spell_destinations(&mut spelled, destinations)?;
     Ok(spelled.as_slice() == octets)
 }

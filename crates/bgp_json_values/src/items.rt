@@ -8,6 +8,7 @@ ghost use Rattle.bgp_json_values.specs.ItemJson.{family_at, family_members, item
 ghost use Rattle.bgp_json_values.specs.ItemJson.{way_json};
 ghost use Rattle.bgp_json_values.specs.Objects.{members_tokens};
 
+use crate::room::{precede_decimal, precede_part, text_from};
 use crate::texts::{put_address, put_number, put_octets, put_truth};
 use bgp_names::name_of_way;
 use bgp_prefix::Address;
@@ -107,26 +108,29 @@ fn put_long_lived_family<A: Allocator>(
     writer.end_object()
 }
 
+/// How many octets two numbers of 16 bits have in decimal at the most, with a colon between them.
+const TWO_HALVES: usize = 11;
+
 /// Puts a community: its two halves.
-fn put_community<A: Allocator + Copy>(
-    writer: &mut Writer<A>,
-    alloc: A,
-    octets: &[u8],
-) -> Result<(), AllocError>
+fn put_community<A: Allocator>(writer: &mut Writer<A>, octets: &[u8]) -> Result<(), AllocError>
     requires { length octets.now ≡ 4 }
     ensures { Adds result writer.old writer.new
         (json_tokens (item_json Item.Community octets.now)) }
 {
     let high = BigEndian::read_u16(octets);
     let low = BigEndian::read_u16(behind(2, octets));
-    let text = format!(in alloc; "{high}:{low}")?;
-    writer.string(text.as_str())
+    let mut room = [0; TWO_HALVES];
+    let start = precede_part(&mut room, TWO_HALVES, b':', u32::from(low));
+    let start = precede_decimal(&mut room, start, u32::from(high));
+    writer.string(text_from(&room, start))
 }
 
+/// How many octets three numbers of 32 bits have in decimal at the most, with colons between them.
+const THREE_NUMBERS: usize = 32;
+
 /// Puts a large community: its three numbers.
-fn put_large_community<A: Allocator + Copy>(
+fn put_large_community<A: Allocator>(
     writer: &mut Writer<A>,
-    alloc: A,
     octets: &[u8],
 ) -> Result<(), AllocError>
     requires { length octets.now ≡ 12 }
@@ -136,8 +140,11 @@ fn put_large_community<A: Allocator + Copy>(
     let first = BigEndian::read_u32(octets);
     let second = BigEndian::read_u32(behind(4, octets));
     let third = BigEndian::read_u32(behind(8, octets));
-    let text = format!(in alloc; "{first}:{second}:{third}")?;
-    writer.string(text.as_str())
+    let mut room = [0; THREE_NUMBERS];
+    let start = precede_part(&mut room, THREE_NUMBERS, b':', third);
+    let start = precede_part(&mut room, start, b':', second);
+    let start = precede_decimal(&mut room, start, first);
+    writer.string(text_from(&room, start))
 }
 
 /// Puts an item.
@@ -157,9 +164,9 @@ fn put_item<A: Allocator + Copy>(
         Item::LongLivedFamily => put_long_lived_family(writer, octets),
         Item::AsNumber2 => writer.u64(u64::from(BigEndian::read_u16(octets))),
         Item::AsNumber4 => writer.u64(u64::from(BigEndian::read_u32(octets))),
-        Item::Community => put_community(writer, alloc, octets),
+        Item::Community => put_community(writer, octets),
         Item::ExtendedCommunity => put_octets(writer, alloc, octets),
-        Item::LargeCommunity => put_large_community(writer, alloc, octets),
+        Item::LargeCommunity => put_large_community(writer, octets),
         Item::Cluster => put_address(writer, alloc, Address::V4(BigEndian::read_u32(octets))),
     }
 }

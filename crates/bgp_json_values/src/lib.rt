@@ -18,6 +18,7 @@ mod destinations;
 mod errors;
 mod items;
 mod octets;
+mod room;
 mod routes;
 mod spelled_capabilities;
 mod spelled_routes;

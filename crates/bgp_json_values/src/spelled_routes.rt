@@ -94,6 +94,7 @@ pub(crate) fn is_spelled_unicast<A: Allocator>(
         ≡ bytes_eq (spelled_unicast family hop destinations.now) octets.now) }
 {
     let mut spelled = Vec::new(alloc);
+    spelled.reserve(octets.len())?;
     spell_numbers(&mut spelled, afi_of(family), 1)?;
     spell_next_hop(&mut spelled, hop)?;
     spell_destinations(&mut spelled, destinations)?;

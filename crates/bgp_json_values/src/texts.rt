@@ -5,11 +5,14 @@ ghost use Rattle.std.specs.Borrow.{Bor};
 ghost use Rattle.std.specs.Fmt.{decimal};
 ghost use Rattle.json.specs.Json.{boolean, string};
 ghost use Rattle.json.specs.Tree.{json_tokens};
+ghost use Rattle.bgp_prefix.specs.Text.{address_text};
+ghost use Rattle.bgp_prefix.specs.declared.address.Address.TheVariants.{V4};
 ghost use Rattle.bgp_names.specs.Naming.{name_or};
 ghost use Rattle.bgp_json_values.specs.Adding.{Adds};
 ghost use Rattle.bgp_json_values.specs.Objects.{members_tokens, number_of};
 ghost use Rattle.bgp_json_values.specs.Texts.{address_json, octets_json, prefix_json};
 
+use crate::room::{precede_address, precede_part, text_from};
 use bgp_prefix::{Address, Prefix};
 use json::Writer;
 use std::alloc::{AllocError, Allocator};
@@ -26,6 +29,18 @@ pub fn put_octets<A: Allocator + Copy>(
     writer.string(text.as_str())
 }
 
+/// How many octets the text of an IPv4 prefix has, with three digits for the length.
+const ROOM: usize = 19;
+
+/// Puts an IPv4 address.
+fn put_ipv4<A: Allocator>(writer: &mut Writer<A>, address: u32) -> Result<(), AllocError>
+    ensures { Adds result writer.old writer.new (json_tokens (address_json (V4 address))) }
+{
+    let mut room = [0; ROOM];
+    let start = precede_address(&mut room, ROOM, address);
+    writer.string(text_from(&room, start))
+}
+
 /// Puts an address.
 pub fn put_address<A: Allocator + Copy>(
     writer: &mut Writer<A>,
@@ -34,8 +49,26 @@ pub fn put_address<A: Allocator + Copy>(
 ) -> Result<(), AllocError>
     ensures { Adds result writer.old writer.new (json_tokens (address_json address)) }
 {
+    if let Address::V4(number) = address {
+        return put_ipv4(writer, number);
+    }
     let text = address.to_string(alloc)?;
     writer.string(text.as_str())
+}
+
+/// Puts an IPv4 prefix: its lowest address, `/` and its length.
+fn put_ipv4_prefix<A: Allocator>(
+    writer: &mut Writer<A>,
+    address: u32,
+    length: u8,
+) -> Result<(), AllocError>
+    ensures { Adds result writer.old writer.new (json_tokens (string
+        (address_text (V4 address) ++ 47 ∷ decimal length))) }
+{
+    let mut room = [0; ROOM];
+    let start = precede_part(&mut room, ROOM, b'/', u32::from(length));
+    let start = precede_address(&mut room, start, address);
+    writer.string(text_from(&room, start))
 }
 
 /// Puts a prefix.
@@ -46,6 +79,9 @@ pub fn put_prefix<A: Allocator + Copy>(
 ) -> Result<(), AllocError>
     ensures { Adds result writer.old writer.new (json_tokens (prefix_json prefix)) }
 {
+    if let Address::V4(address) = prefix.address() {
+        return put_ipv4_prefix(writer, address, prefix.length());
+    }
     let text = prefix.to_string(alloc)?;
     writer.string(text.as_str())
 }

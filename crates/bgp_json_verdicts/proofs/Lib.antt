@@ -1,4 +1,4 @@
 pub mod Told
 mod Counted
 mod Parts
-mod Shallow
+pub mod Shallow

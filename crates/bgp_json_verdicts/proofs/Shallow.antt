@@ -37,7 +37,7 @@ use Rattle.bgp_json_verdicts.specs.declared.answer.Answer.TheVariants as answers
 use Rattle.bgp_json_verdicts.specs.declared.at.At.{At}
 use Rattle.bgp_json_verdicts.specs.declared.telling.Counts.{Counts}
 
-shallow : (kind : List ℕ) (members : List (List ℕ × Json)) → AreWithin 6 members → depth (typed kind members) ≤ max_depth
+pub shallow : (kind : List ℕ) (members : List (List ℕ × Json)) → AreWithin 6 members → depth (typed kind members) ≤ max_depth
 shallow kind members each =
     let d = object_depth 6 ((codes "type", string kind) ∷ members) (omega arith, each) in omega (arith, d)
 
@@ -49,11 +49,11 @@ end_shallow kind counts members each = verdict_shallow kind counts ((codes "end"
 
 -- ---- members
 
-number_within : (name : List ℕ) (number : Option ℕ) → AreWithin 6 (number_members name number)
+pub number_within : (name : List ℕ) (number : Option ℕ) → AreWithin 6 (number_members name number)
 number_within name None = tt
 number_within name (Some number) = (omega arith, tt)
 
-place_within : (place : Place) → AreWithin 6 (place_members place)
+pub place_within : (place : Place) → AreWithin 6 (place_members place)
 place_within place =
     (omega arith, both_within 6 (number_members (codes "packet") place.packet) (time_members place.second place.micro) (number_within (codes "packet") place.packet) (time_within 6 place.second place.micro))
 
@@ -90,7 +90,7 @@ first_within None = tt
 first_within (Some ends) =
     let d = object_depth 0 ((codes "peer", address_json ends.peer) ∷ (codes "local", address_json ends.local) ∷ []) (omega arith, (omega arith, tt)) in (omega (arith, d), tt)
 
-reason_within : (reason : ReasonValue) → AreWithin 6 (reason_members reason)
+pub reason_within : (reason : ReasonValue) → AreWithin 6 (reason_members reason)
 reason_within (TheRecord place local deed) =
     both_within 6 (place_members place) ((codes "address", address_json local) ∷ (codes "deed", text_json deed) ∷ []) (place_within place) (omega arith, (omega arith, tt))
 reason_within (TheMessage text) = (omega arith, tt)
@@ -170,7 +170,7 @@ path_within p =
     both_within 6 (mandatory_members p) _ (mandatory_within p)
     (both_within 6 (single_members p) _ (single_within p) (both_within 6 (community_members p) (reflection_members p) (communities_within p) (reflection_within p)))
 
-route_within : (destination : Destination) (p : PathValue) → AreWithin 6 (route_members destination p)
+pub route_within : (destination : Destination) (p : PathValue) → AreWithin 6 (route_members destination p)
 route_within destination p =
     both_within 6 (destination_members destination) (path_members p) (omega arith, number_within (codes "path_id") destination.path) (path_within p)
 

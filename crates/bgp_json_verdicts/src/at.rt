@@ -47,7 +47,7 @@ impl At {
 }
 
 /// Puts a number, if there is one.
-pub(crate) fn put_number_if<A: Allocator>(
+pub fn put_number_if<A: Allocator>(
     writer: &mut Writer<A>,
     key: &str,
     number: Option<u64>,
@@ -61,10 +61,7 @@ pub(crate) fn put_number_if<A: Allocator>(
 }
 
 /// Puts where a record stands, and its time.
-pub(crate) fn put_place<A: Allocator>(
-    writer: &mut Writer<A>,
-    place: &Place,
-) -> Result<(), AllocError>
+pub fn put_place<A: Allocator>(writer: &mut Writer<A>, place: &Place) -> Result<(), AllocError>
     ensures { Adds result writer.old writer.new (members_tokens (place_members place.now)) }
 {
     put_number(writer, "record", place.number)?;

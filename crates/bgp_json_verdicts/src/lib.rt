@@ -25,7 +25,10 @@ mod telling;
 mod verdict_line;
 
 pub use answer::Answer;
-pub use at::At;
+pub use at::{At, put_number_if, put_place};
+pub use object::{put_families, put_written};
+pub use reason::{put_octets_text, put_reason, put_state, reason_type};
 pub use reason_line::ReasonLine;
+pub use route::put_route;
 pub use telling::{Counts, Telling};
 pub use verdict_line::VerdictLine;

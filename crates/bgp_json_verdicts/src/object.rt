@@ -45,7 +45,7 @@ fn start<A: Allocator>(alloc: A) -> Writer<A>
 }
 
 /// Puts the line of what was written, or nothing if memory was refused for it.
-fn put_written<A: Allocator, W: Sink>(
+pub fn put_written<A: Allocator, W: Sink>(
     lines: &mut Lines<'_, W>,
     writer: Writer<A>,
     written: Result<(), AllocError>,
@@ -106,7 +106,10 @@ fn put_family<A: Allocator>(
 }
 
 /// Puts the texts of families.
-fn put_families<A: Allocator>(writer: &mut Writer<A>, families: Families) -> Result<(), AllocError>
+pub fn put_families<A: Allocator>(
+    writer: &mut Writer<A>,
+    families: Families,
+) -> Result<(), AllocError>
     ensures { Adds result writer.old writer.new
         (values_tokens (map string (family_texts families))) }
 {

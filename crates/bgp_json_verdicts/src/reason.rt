@@ -22,7 +22,7 @@ use mrt::Endpoints;
 use std::alloc::{AllocError, Allocator};
 
 /// Puts a text.
-pub(crate) fn put_octets_text<A: Allocator + Copy>(
+pub fn put_octets_text<A: Allocator + Copy>(
     writer: &mut Writer<A>,
     alloc: A,
     key: &str,
@@ -54,7 +54,7 @@ fn put_behind<A: Allocator + Copy>(
 }
 
 /// Puts a state.
-pub(crate) fn put_state<A: Allocator + Copy>(
+pub fn put_state<A: Allocator + Copy>(
     writer: &mut Writer<A>,
     alloc: A,
     state: Fsm,
@@ -221,7 +221,7 @@ fn put_ends<A: Allocator + Copy>(
 }
 
 /// Returns the type of a line's object.
-pub(crate) fn reason_type(reason: &ReasonLine<'_>) -> &'static str
+pub fn reason_type(reason: &ReasonLine<'_>) -> &'static str
     ensures { result.now ≡ reason_type (reason_value reason.now) }
 {
     match reason {
@@ -245,7 +245,7 @@ pub(crate) fn reason_type(reason: &ReasonLine<'_>) -> &'static str
 }
 
 /// Puts the members of a line's object.
-pub(crate) fn put_reason<A: Allocator + Copy>(
+pub fn put_reason<A: Allocator + Copy>(
     writer: &mut Writer<A>,
     alloc: A,
     reason: &ReasonLine<'_>,

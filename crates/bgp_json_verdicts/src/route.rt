@@ -451,7 +451,7 @@ fn put_destination<A: Allocator + Copy>(
 }
 
 /// Puts the members of a route.
-pub(crate) fn put_route<A: Allocator + Copy, B: Allocator>(
+pub fn put_route<A: Allocator + Copy, B: Allocator>(
     writer: &mut Writer<A>,
     alloc: A,
     destination: Destination,

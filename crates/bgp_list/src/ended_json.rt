@@ -57,8 +57,8 @@ fn put_fallen<A: Allocator + Copy>(
     put_states(writer, alloc, state, IDLE)
 }
 
-/// How it ended.
-fn put_how_members<A: Allocator + Copy>(
+/// Puts how a session ended.
+pub fn put_how_members<A: Allocator + Copy>(
     writer: &mut Writer<A>,
     alloc: A,
     how: How<'_>,

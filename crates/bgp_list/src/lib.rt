@@ -31,10 +31,14 @@ pub use capture::{ListedCapture, fault_status, list_capture, put_fault};
 pub use connection::{
     endpoint_of, put_connection, put_refused, put_refused_between, put_refused_connection,
 };
+pub use ended_json::put_how_members;
 pub use firsts::{NUMBERS, add_first};
 pub use form::ListForm;
 pub use laws::each_of_them_is_listed;
 pub use line::Line;
 pub use listed::{ListedRecording, NothingListed};
+pub use members::{put_as_number, put_end_members, put_pair};
 pub use recording::list_recording;
+pub use refusal_json::{put_fault_json, put_refused_json};
 pub use session::{first_second, put_session};
+pub use session_json::write_session;

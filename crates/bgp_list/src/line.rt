@@ -120,7 +120,7 @@ impl<'a> Line<'a> {
     }
 
     /// Writes its object.
-    pub(crate) fn write<A: Allocator + Copy>(
+    pub fn write<A: Allocator + Copy>(
         &self,
         writer: &mut Writer<A>,
         alloc: A,

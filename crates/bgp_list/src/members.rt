@@ -24,8 +24,8 @@ fn put_port<A: Allocator>(
     }
 }
 
-/// An AS number, if it is known.
-pub(crate) fn put_as_number<A: Allocator>(
+/// Puts an AS number, if it is known.
+pub fn put_as_number<A: Allocator>(
     writer: &mut Writer<A>,
     key: &str,
     number: Option<u32>,
@@ -38,8 +38,8 @@ pub(crate) fn put_as_number<A: Allocator>(
     }
 }
 
-/// An end: its address and its port.
-pub(crate) fn put_end_members<A: Allocator + Copy>(
+/// Puts an end: its address and its port.
+pub fn put_end_members<A: Allocator + Copy>(
     writer: &mut Writer<A>,
     alloc: A,
     key: &str,
@@ -54,8 +54,8 @@ pub(crate) fn put_end_members<A: Allocator + Copy>(
     put_port(writer, port_key, end.port)
 }
 
-/// Two numbers.
-pub(crate) fn put_pair<A: Allocator>(
+/// Puts two numbers.
+pub fn put_pair<A: Allocator>(
     writer: &mut Writer<A>,
     key: &str,
     first: u64,

@@ -47,7 +47,7 @@ fn put_offset_end<W: Sink>(lines: &mut Lines<'_, W>, offset: u64)
 }
 
 /// Puts the object of a recording that can't be read on.
-pub(crate) fn put_refused_json<W: Sink>(lines: &mut Lines<'_, W>, refusal: Refusal)
+pub fn put_refused_json<W: Sink>(lines: &mut Lines<'_, W>, refusal: Refusal)
     ensures wrote { Writes lines.old lines.new (json_line (refused_json refusal)) }
     ensures is_value { IsOneValue (json_line (refused_json refusal)) }
 {
@@ -56,7 +56,7 @@ pub(crate) fn put_refused_json<W: Sink>(lines: &mut Lines<'_, W>, refusal: Refus
 }
 
 /// Puts the object of a capture that can't be read on.
-pub(crate) fn put_fault_json<W: Sink>(lines: &mut Lines<'_, W>, fault: CaptureFault)
+pub fn put_fault_json<W: Sink>(lines: &mut Lines<'_, W>, fault: CaptureFault)
     ensures wrote { Writes lines.old lines.new (json_line (capture_json fault)) }
     ensures is_value { IsOneValue (json_line (capture_json fault)) }
 {

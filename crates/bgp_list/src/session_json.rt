@@ -56,7 +56,7 @@ fn put_seconds<A: Allocator>(
 }
 
 /// Writes the object of a session with these records.
-pub(crate) fn write_session<A: Allocator + Copy>(
+pub fn write_session<A: Allocator + Copy>(
     writer: &mut Writer<A>,
     alloc: A,
     addresses: Addresses,

@@ -17,22 +17,22 @@ use streams::{Closing, End, Side};
 /// States, as a capture numbers them (RFC 6396, 4.4.1).
 const IDLE: u16 = 1;
 
-const CONNECT: u16 = 2;
+pub(crate) const CONNECT: u16 = 2;
 
-const ACTIVE: u16 = 3;
+pub(crate) const ACTIVE: u16 = 3;
 
-const OPEN_SENT: u16 = 4;
+pub(crate) const OPEN_SENT: u16 = 4;
 
 const OPEN_CONFIRM: u16 = 5;
 
 const ESTABLISHED: u16 = 6;
 
 /// How many seconds after it came a received message is handled at the latest.
-const WITHIN: u16 = 10;
+pub(crate) const WITHIN: u16 = 10;
 
 /// A message, and who sent it.
 #[derive(Clone, Copy)]
-struct Said {
+pub(crate) struct Said {
     by: Side,
     kind: MessageType,
     octets: &'static [u8],
@@ -63,7 +63,7 @@ static OPENING: [Said; 4] = [
 ];
 
 /// What may pass then.
-static LATER: [Said; 9] = [
+pub(crate) static LATER: [Said; 9] = [
     Said {
         by: Side::Peer,
         kind: MessageType::Keepalive,
@@ -112,7 +112,7 @@ static LATER: [Said; 9] = [
 ];
 
 /// How many seconds lie before each of the later messages, and who ends the connection.
-static ENDINGS: [(u32, Option<Side>); 4] = [
+pub(crate) static ENDINGS: [(u32, Option<Side>); 4] = [
     (0, None),
     (11, None),
     (0, Some(Side::Local)),
@@ -129,15 +129,15 @@ enum Item {
 
 /// What packets tell of a connection: its messages, and its end if it has one.
 #[derive(Drop)]
-struct Passed {
-    received: Vec<Message<'static>>,
-    sent: Vec<Message<'static>>,
-    end: Option<End>,
+pub(crate) struct Passed {
+    pub(crate) received: Vec<Message<'static>>,
+    pub(crate) sent: Vec<Message<'static>>,
+    pub(crate) end: Option<End>,
 }
 
 impl Passed {
     /// The exchange over a connection that this side opened.
-    fn exchange(&self, opened_by: Side) -> Exchange<'_, 'static> {
+    pub(crate) fn exchange(&self, opened_by: Side) -> Exchange<'_, 'static> {
         Exchange {
             opened_by,
             packet: 1,
@@ -168,7 +168,7 @@ impl Passed {
 
 /// The front of the opening, then these two messages, each so many seconds behind what passed
 /// before; and then this side ends the connection, if one does.
-fn passed_behind(
+pub(crate) fn passed_behind(
     alloc: Global,
     opening: usize,
     later: &[Said],
@@ -258,10 +258,10 @@ fn order_of(alloc: Global, passed: &Passed, bits: u32, left: usize) -> Option<Ve
 /// Where a way stands: the state, the second, and how many OPENs stand just before: a received one,
 /// and behind that the own one, which was delayed.
 #[derive(Clone, Copy)]
-struct Standing {
-    state: u16,
-    second: u32,
-    opens: u8,
+pub(crate) struct Standing {
+    pub(crate) state: u16,
+    pub(crate) second: u32,
+    pub(crate) opens: u8,
 }
 
 impl Standing {
@@ -308,12 +308,26 @@ fn answers(kind: MessageType, own: &Message<'_>) -> bool {
 
 /// The records of a way, and where it stands behind them.
 #[derive(Drop)]
-struct Told {
-    records: Vec<Record<'static>>,
-    standing: Standing,
+pub(crate) struct Told {
+    pub(crate) records: Vec<Record<'static>>,
+    pub(crate) standing: Standing,
 }
 
 impl Told {
+    /// Behind the first record, by which the session goes to this state.
+    pub(crate) fn begun(alloc: Global, start: u16) -> Option<Told> {
+        let mut told = Told {
+            records: Vec::new(alloc),
+            standing: Standing {
+                state: IDLE,
+                second: 100,
+                opens: 0,
+            },
+        };
+        told.change(start).ok()?;
+        Some(told)
+    }
+
     /// Goes to this state, with a record of that unless it is the state already.
     fn change(&mut self, state: u16) -> Result<(), AllocError> {
         let Standing {
@@ -329,7 +343,7 @@ impl Told {
     }
 
     /// Handles a received message, behind which this one is sent next.
-    fn receive(
+    pub(crate) fn receive(
         &mut self,
         came: Message<'static>,
         next: Option<&Message<'_>>,
@@ -347,7 +361,7 @@ impl Told {
     }
 
     /// Sends a message.
-    fn send(&mut self, own: Message<'static>) -> Result<(), AllocError> {
+    pub(crate) fn send(&mut self, own: Message<'static>) -> Result<(), AllocError> {
         let Some(kind) = own.kind else {
             return Ok(());
         };
@@ -361,7 +375,7 @@ impl Told {
     }
 
     /// Ends the connection, behind which received messages are left or not.
-    fn end(&mut self, end: End, are_left: bool) -> Result<(), AllocError> {
+    pub(crate) fn end(&mut self, end: End, are_left: bool) -> Result<(), AllocError> {
         self.standing.second = self.standing.second.max(end.second);
         self.standing.opens = 0;
         if self.standing.state == OPEN_SENT {
@@ -387,15 +401,7 @@ fn next_sent(later: &[Item]) -> Option<&Message<'static>> {
 
 /// The records of a way that begins in this state.
 fn records_of(alloc: Global, start: u16, order: &[Item]) -> Option<Vec<Record<'static>>> {
-    let mut told = Told {
-        records: Vec::new(alloc),
-        standing: Standing {
-            state: IDLE,
-            second: 100,
-            opens: 0,
-        },
-    };
-    told.change(start).ok()?;
+    let mut told = Told::begun(alloc, start)?;
     for (at, item) in order.iter().enumerate() {
         let later = order.get(at..)?;
         match *item {
@@ -419,7 +425,11 @@ fn count_sent(records: &[Record<'_>]) -> usize {
 }
 
 /// How many sent messages a way explains, and whether it is whole.
-fn explained_by(alloc: Global, config: &Config, records: &[Record<'_>]) -> Option<(usize, bool)> {
+pub(crate) fn explained_by(
+    alloc: Global,
+    config: &Config,
+    records: &[Record<'_>],
+) -> Option<(usize, bool)> {
     let verdict = judge_records::<Global, PlainTracker<Global>>(alloc, config, records).ok()?;
     match verdict {
         Verdict::Yes(_) => Some((count_sent(records), true)),

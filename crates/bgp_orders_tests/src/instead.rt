@@ -11,7 +11,7 @@ use std::alloc::Global;
 use streams::Side;
 
 /// No message.
-const NOTHING: Sendable = Sendable {
+pub(crate) const NOTHING: Sendable = Sendable {
     own_open: false,
     keepalive: false,
     update: false,

@@ -6,8 +6,14 @@
 #[cfg(test)]
 mod all_ways;
 #[cfg(test)]
+mod by_chance;
+#[cfg(test)]
 mod connections;
 #[cfg(test)]
+mod exchanges;
+#[cfg(test)]
 mod explained;
+#[cfg(test)]
+mod few_orders;
 #[cfg(test)]
 mod instead;

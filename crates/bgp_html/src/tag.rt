@@ -1,0 +1,161 @@
+//! The markup of a report: each piece of it is one of these, and holds nothing from elsewhere.
+
+ghost use Rattle.bgp_text.specs.Lines.{Writes};
+ghost use Rattle.bgp_html.specs.Tags.{mark_class, row_text, tag_text, what_class};
+ghost use Rattle.bgp_html.specs.declared.tag.Tag.TheVariants.{Change, ChangeEnd, Ladder};
+
+use bgp_text::Lines;
+use mrt::Sink;
+
+/// In which column of a ladder the end stands that is judged: the left one is that of the end which
+/// opened the connection.
+#[derive(Clone, Copy, Debug, PartialEq, Eq)]
+pub enum Column {
+    /// The first.
+    Left,
+    /// The second.
+    Right,
+}
+
+/// What a row of a ladder shows.
+#[derive(Clone, Copy, Debug, PartialEq, Eq)]
+pub enum What {
+    /// A message that the judged end sent, from this column to the other.
+    Sent(Column),
+    /// A message that it received, from the other column to this.
+    Received(Column),
+    /// A change of its state.
+    Changed,
+    /// How many rows were left out.
+    Run,
+}
+
+/// How a row of a ladder is marked.
+#[derive(Clone, Copy, Debug, PartialEq, Eq)]
+pub enum Mark {
+    /// Not at all.
+    Plain,
+    /// It is the record at which a no stands.
+    No,
+    /// It is behind that, and isn't judged.
+    Behind,
+    /// It is no record: it could have stood there.
+    Possible,
+}
+
+/// A piece of markup.
+#[derive(Clone, Copy, Debug, PartialEq, Eq)]
+pub enum Tag {
+    /// The start of a ladder's table, and of its caption.
+    Ladder(Column),
+    /// The end of the caption, and the start of the table's head and of its first cell.
+    CaptionEnd,
+    /// The start of the head's next cell.
+    Head,
+    /// The end of the table's head.
+    HeadEnd,
+    /// The start of a row, and of its first cell.
+    Row(What, Mark),
+    /// The start of a row's next cell.
+    Cell,
+    /// The start of what a message says, between both columns, and its end, which ends the row.
+    Message,
+    /// See `Message`.
+    MessageEnd,
+    /// The start of a change of state, in this column, and its end, which ends the row.
+    Change(Column),
+    /// See `Change`.
+    ChangeEnd(Column),
+    /// The end of the table.
+    LadderEnd,
+}
+
+/// Puts the class of a row that shows this: the arrow of a message points to the right (`to`) or to
+/// the left (`fro`).
+fn put_what<W: Sink>(lines: &mut Lines<'_, W>, what: What)
+    ensures { Writes lines.old lines.new (what_class what) }
+{
+    match what {
+        What::Sent(Column::Left) => lines.put(b"m s to"),
+        What::Sent(Column::Right) => lines.put(b"m s fro"),
+        What::Received(Column::Left) => lines.put(b"m r fro"),
+        What::Received(Column::Right) => lines.put(b"m r to"),
+        What::Changed => lines.put(b"c"),
+        What::Run => lines.put(b"run"),
+    }
+}
+
+/// Puts the class of a row that is marked so, behind a blank.
+fn put_mark<W: Sink>(lines: &mut Lines<'_, W>, mark: Mark)
+    ensures { Writes lines.old lines.new (mark_class mark) }
+{
+    match mark {
+        Mark::Plain => lines.put(b""),
+        Mark::No => lines.put(b" no"),
+        Mark::Behind => lines.put(b" late"),
+        Mark::Possible => lines.put(b" could"),
+    }
+}
+
+/// Puts the start of a row.
+fn put_row<W: Sink>(lines: &mut Lines<'_, W>, what: What, mark: Mark)
+    ensures { Writes lines.old lines.new (row_text what mark) }
+{
+    lines.put(b"<tr class=\"");
+    put_what(lines, what);
+    put_mark(lines, mark);
+    lines.put(b"\"><td>");
+}
+
+/// Puts the start of a ladder.
+#[tactic(auto, unfolding(crate::specs::Tags::tag_text))]
+fn put_ladder_start<W: Sink>(lines: &mut Lines<'_, W>, column: Column)
+    ensures { Writes lines.old lines.new (tag_text (Ladder column)) }
+{
+    match column {
+        Column::Left => lines.put(b"<table class=\"ladder a\"><caption>"),
+        Column::Right => lines.put(b"<table class=\"ladder b\"><caption>"),
+    }
+}
+
+/// Puts the start of a change of state in this column.
+#[tactic(auto, unfolding(crate::specs::Tags::tag_text))]
+fn put_change<W: Sink>(lines: &mut Lines<'_, W>, column: Column)
+    ensures { Writes lines.old lines.new (tag_text (Change column)) }
+{
+    match column {
+        Column::Left => lines.put(b"<td><span>"),
+        Column::Right => lines.put(b"<td><td><td><span>"),
+    }
+}
+
+/// Puts the end of a change of state in this column, which ends the row.
+#[tactic(auto, unfolding(crate::specs::Tags::tag_text))]
+fn put_change_end<W: Sink>(lines: &mut Lines<'_, W>, column: Column)
+    ensures { Writes lines.old lines.new (tag_text (ChangeEnd column)) }
+{
+    match column {
+        Column::Left => lines.put(b"</span><td><td>\n"),
+        Column::Right => lines.put(b"</span>\n"),
+    }
+}
+
+/// Puts a piece of markup.
+#[tactic(auto, unfolding(crate::specs::Tags::tag_text))]
+pub fn put_tag<W: Sink>(lines: &mut Lines<'_, W>, tag: Tag)
+    ensures { Writes lines.old lines.new (tag_text tag) }
+{
+    match tag {
+        Tag::Ladder(column) => put_ladder_start(lines, column),
+        Tag::CaptionEnd => lines.put(b"</caption><thead><tr><th>"),
+        Tag::Head => lines.put(b"<th>"),
+        Tag::HeadEnd => lines.put(b"<tbody>\n"),
+        Tag::Row(what, mark) => put_row(lines, what, mark),
+        Tag::Cell => lines.put(b"<td>"),
+        Tag::Message => lines.put(b"<td><td><div>"),
+        Tag::MessageEnd => lines.put(b"</div><td>\n"),
+        Tag::Change(column) => put_change(lines, column),
+        Tag::ChangeEnd(column) => put_change_end(lines, column),
+        Tag::LadderEnd => lines.put(b"</table>\n"),
+    }
+}

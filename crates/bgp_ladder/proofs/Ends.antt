@@ -1,0 +1,33 @@
+-- The pieces of a text, put one behind another.
+use Rattle.std.proofs.Common.{◌≡◌, ◌∙◌, ◌++◌, ◌-◌, ℕ, List, [], append-nil, sym, ap, subst}
+use Rattle.std.proofs.lemmas.Grind.{flat_map-append}
+use Rattle.std.specs.Prelude.{codes}
+use Rattle.std.specs.Fmt.{decimal}
+use Rattle.mrt.specs.declared.sink.Sink as sinks
+use Rattle.bgp_text.specs.Lines.{Writes}
+use Rattle.bgp_text.specs.declared.lines.Lines.{Lines}
+use Rattle.bgp_text.proofs.Pieces.{Joins, and_then}
+use Rattle.bgp_html.specs.Escaped.{escape_octet, escaped}
+use Rattle.bgp_html.specs.Pieces.{Piece, html_of, piece_html}
+use Rattle.bgp_ladder.specs.Ladder.{elapsed_words}
+
+-- the last of them
+pub ended : {W : Type 0} {sink : sinks.Ghosts W} {old new : Lines W sink} {text : List ℕ} → Writes old new text → Writes old new (text ++ [])
+ended {old = old} {new = new} {text = text} writes = subst (λ (t : List ℕ). Writes old new t) (sym (append-nil text)) writes
+
+-- those of two lists
+pub together : {W : Type 0} {sink : sinks.Ghosts W} {old new : Lines W sink} (pieces more : List Piece)
+    → Writes old new (html_of pieces ++ html_of more) → Writes old new (html_of (pieces ++ more))
+together {old = old} {new = new} pieces more writes =
+    subst (λ (t : List ℕ). Writes old new t) (sym (flat_map-append piece_html pieces more)) writes
+
+-- how many seconds it is behind the first
+pub elapsed : {W : Type 0} {sink : sinks.Ghosts W} {a b c d : Lines W sink} → Joins sink → (first second n : ℕ) → n ≡ second - first
+    → Writes a b (escaped (codes "+")) → Writes b c (escaped (decimal n)) → Writes c d (escaped (codes " s"))
+    → Writes a d (escaped (elapsed_words first second))
+elapsed {a = a} {b = b} {c = c} {d = d} law first second n is plus written unit =
+    let number : Writes b c (escaped (decimal (second - first))) = subst (λ (m : ℕ). Writes b c (escaped (decimal m))) is written in
+    subst (λ (t : List ℕ). Writes a d t)
+    (ap (λ (t : List ℕ). escaped (codes "+") ++ t) (sym (flat_map-append escape_octet (decimal (second - first)) (codes " s")))
+    ∙ sym (flat_map-append escape_octet (codes "+") (decimal (second - first) ++ codes " s")))
+    (and_then law plus (and_then law number unit))

@@ -1,0 +1,111 @@
+//! What a record shows, in words.
+
+ghost use Rattle.std.specs.Prelude.{◌≡◌, ◌↔◌, IfOk, IsOk, IsTrue, List, ℕ};
+ghost use Rattle.mrt.specs.Reader.{shown_of};
+ghost use Rattle.mrt.specs.MemSink.{sink_state};
+ghost use Rattle.bgp_text.specs.Lines.{Writes};
+ghost use Rattle.bgp_ladder.specs.Deed.{IsMessageText, IsDeedBy, IsWhole, change_text, octets_text};
+
+use bgp_lines::put_named_message;
+use bgp_names::put_state_name;
+use bgp_recording::Framings;
+use bgp_text::Lines;
+use bgp_values::{Direction, Opens, Reading};
+use bgp_wire::{HEADER_LEN, Limit};
+use mrt::{Failed, MemSink, Record, Sink, has_other_length};
+use std::alloc::{AllocError, Allocator};
+
+/// Returns whether octets are one whole message, or begin with a faulty header.
+fn is_whole(limit: Limit, octets: &[u8]) -> bool
+    ensures { IsTrue result ↔ IsWhole limit octets.now }
+{
+    HEADER_LEN <= octets.len() && !has_other_length(octets, limit)
+}
+
+/// Puts octets that are no message.
+fn put_octets<W: Sink>(lines: &mut Lines<'_, W>, octets: &[u8])
+    ensures { Writes lines.old lines.new (octets_text octets.now) }
+{
+    lines.put(b"no whole message: ");
+    lines.put_hex(octets);
+}
+
+/// Puts what a message says, if it may be so long and UPDATEs are read so.
+fn put_message_text<W: Sink>(
+    lines: &mut Lines<'_, W>,
+    reading: Reading,
+    limit: Limit,
+    octets: &[u8],
+)
+    ensures { (text : List ℕ) × IsMessageText reading limit octets.now text
+        × Writes lines.old lines.new text }
+{
+    if is_whole(limit, octets) {
+        put_named_message(lines, reading, limit, octets);
+    } else {
+        put_octets(lines, octets);
+    }
+}
+
+/// Puts a change from one state to another.
+fn put_change_text<W: Sink>(lines: &mut Lines<'_, W>, old: u16, new: u16)
+    ensures { Writes lines.old lines.new (change_text old new) }
+{
+    put_state_name(lines, old);
+    lines.put(b" to ");
+    put_state_name(lines, new);
+}
+
+/// Puts what a record shows, where these were the last OPENs and both directions are framed so.
+fn put_deed_text<W: Sink>(
+    lines: &mut Lines<'_, W>,
+    opens: &Opens,
+    framings: Framings,
+    shown: &Record<'_>,
+)
+    ensures { (text : List ℕ) × IsDeedBy framings opens.now (shown_of shown.now) text
+        × Writes lines.old lines.new text }
+{
+    match shown {
+        Record::In(_, octets) => {
+            let reading = opens.reading(false, Direction::Received);
+            put_message_text(lines, reading, framings.received.limit, octets);
+        }
+        Record::Out(_, octets) => {
+            let reading = opens.reading(false, Direction::Sent);
+            put_message_text(lines, reading, framings.sent.limit, octets);
+        }
+        Record::Change(_, old, new) => put_change_text(lines, *old, *new),
+    }
+}
+
+/// Returns what a sink in memory took, if it had memory for all of it.
+fn taken<A: Allocator>(
+    sink: MemSink<A>,
+    handed: Result<(), Failed>,
+) -> Result<Vec<u8, A>, AllocError>
+    ensures { IfOk result (λ text. IsOk handed × (text.items ≡ (sink_state sink).octets)) }
+{
+    match handed {
+        Ok(()) => Ok(sink.into_octets()),
+        Err(Failed) => Err(AllocError),
+    }
+}
+
+/// Returns what a record shows, where these were the last OPENs and both directions are framed so.
+pub(crate) fn deed_of<A: Allocator>(
+    alloc: A,
+    opens: &Opens,
+    framings: Framings,
+    shown: &Record<'_>,
+) -> Result<Vec<u8, A>, AllocError>
+    ensures { IfOk result (λ text. IsDeedBy framings opens.now (shown_of shown.now) text.items) }
+{
+    let mut sink = MemSink::new(alloc);
+    let mut lines = Lines::new(&mut sink);
+    put_deed_text(&mut lines, opens, framings, shown);
+    let handed = lines.hand_over();
+    // No effect: it ends the loan of the sink.
+    lines.into_sink();
+    taken(sink, handed)
+}

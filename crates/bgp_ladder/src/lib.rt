@@ -1,0 +1,18 @@
+//! The records of one end of a connection as a ladder in HTML: a row a record, with its time, its
+//! packet and its number; a message as an arrow between both ends, a change of state in the column
+//! of the end that is judged.
+//!
+//! ```text
+//! put_head(&mut lines, ladder.column, caption, left, right);
+//! put_rows(&mut lines, &ladder, &entries);
+//! put_tag(&mut lines, Tag::LadderEnd);
+//! ```
+#![tactic(auto)]
+
+mod cells;
+mod deed;
+mod head;
+mod rows;
+
+pub use head::put_head;
+pub use rows::{Ladder, put_rows};
