@@ -5,3 +5,4 @@ pub mod Reasons
 pub mod Routes
 pub mod Lines
 pub mod Printed
+pub mod Numbers

@@ -1,6 +1,6 @@
--- What the laws of verdicts in JSON say: what is printed as JSON determines what is printed as text.
-use Rattle.std.specs.Prelude.{◌≡◌, ◌≢◌, ◌⊎◌, ◌++◌, ◌<◌, ◌≤◌, ◌^◌, ⊤, ℕ, List, [], Option, None, Some}
-use Rattle.std.specs.Prelude.{All, IsUtf8, codes, flat_map, length}
+-- What the laws of verdicts in JSON say: what is printed in JSON determines what the text is.
+use Rattle.std.specs.Prelude.{◌≡◌, ◌≢◌, ◌⊎◌, ◌++◌, ◌<◌, ◌≤◌, ◌^◌, ⊤, ℕ, List, [], Option, None}
+use Rattle.std.specs.Prelude.{Some, All, IsUtf8, codes, flat_map, length}
 use Rattle.json.specs.Tree.{HasNumbers}
 use Rattle.bgp_path.specs.AsPath.{PathSegment}
 use Rattle.bgp_why.specs.declared.place.Place.{Place}

@@ -2,6 +2,7 @@
 
 ghost use Rattle.bgp_verdict_laws.specs.Laws.{LinesAreDetermined, OutputsAreDetermined};
 ghost use Rattle.bgp_verdict_laws.specs.Laws.{PrintedIsDetermined};
+ghost use Rattle.bgp_verdict_laws.specs.Numbers.{LinesHaveNumbers};
 
 /// States that the object of a line determines the line's text: of a verdict, an end, a route, a
 /// line of a reason, a connection, or a refusal.
@@ -14,4 +15,10 @@ pub fn each_line_determines_its_text()
 pub fn each_output_determines_its_text()
     ensures lines { OutputsAreDetermined }
     ensures printed { PrintedIsDetermined }
+{}
+
+/// States that each number of an output's objects is one that JSON can have (RFC 8259, 6), if those
+/// of its lines have 64 bits.
+pub fn each_number_is_one_of_json()
+    ensures { LinesHaveNumbers }
 {}

@@ -7,4 +7,6 @@
 
 mod laws;
 
-pub use laws::{each_line_determines_its_text, each_output_determines_its_text};
+pub use laws::{
+    each_line_determines_its_text, each_number_is_one_of_json, each_output_determines_its_text,
+};
