@@ -2,5 +2,5 @@ pub mod Values
 pub mod Tellers
 pub mod Puts
 pub mod Printed
-pub mod SameSink
 mod Texts
+pub mod SameSink
