@@ -60,7 +60,7 @@ line of its connection or session. If nothing of that is left, nothing is printe
 has no session at all. The exit status says the same as without.
 
 check --json prints the same as JSON objects, one a line: of a connection or a session, of the answer
-on each end, of each line of its reason, and of the counts.
+on each end and each thing that is said beside it, and last of the counts.
 
 ROUTE-REFRESH messages that their receiver's OPEN offers to read are passed over, and a note counts
 them. If a connection, a session or the file can't be read, a line says so, as those of bgp list do.
