@@ -81,6 +81,13 @@ asked_text asked =
 
 -- ---- all of it
 
+-- without the file's name
+unfoldable pub command_text : JudgeOptions → List ℕ
+command_text options =
+    codes "bgp judge" ++ (needs_text options.config
+    ++ (addresses_text options.config.parts.session ++ (choices_text options.config
+    ++ (refresh_text options ++ asked_text options.asked))))
+
 unfoldable pub judge_line : JudgeOptions → List ℕ
 judge_line options =
     codes "  repeat: bgp judge" ++ (needs_text options.config

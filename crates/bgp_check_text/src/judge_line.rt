@@ -3,6 +3,7 @@
 ghost use Rattle.std.specs.Prelude.{◌≡◌, option_map};
 ghost use Rattle.bgp_text.specs.Lines.{Writes};
 ghost use Rattle.bgp_check_text.specs.JudgeLine.{addresses_text, asked_text, choices_text};
+ghost use Rattle.bgp_check_text.specs.JudgeLine.{command_text};
 ghost use Rattle.bgp_check_text.specs.JudgeLine.{families_word, flag_text, hold_text, judge_line};
 ghost use Rattle.bgp_check_text.specs.JudgeLine.{needs_text, number_text, offers_option};
 ghost use Rattle.bgp_check_text.specs.JudgeLine.{refresh_text};
@@ -133,8 +134,20 @@ fn put_asked<W: Sink>(lines: &mut Lines<'_, W>, asked: &Asked)
     put_number(lines, b" --within ", asked.within);
 }
 
-/// Puts the command that reproduces a verdict: `repeat: bgp judge OPTIONS FILE`, with `FILE` for
-/// the file's name.
+/// Puts the command that reproduces a verdict, without the file's name: `bgp judge OPTIONS`.
+pub fn put_command<W: Sink>(lines: &mut Lines<'_, W>, options: &JudgeOptions)
+    ensures { Writes lines.old lines.new (command_text options.now) }
+{
+    lines.put(b"bgp judge");
+    put_needs(lines, &options.config);
+    put_addresses(lines, &options.config.parts.session);
+    put_choices(lines, &options.config);
+    put_refresh(lines, options);
+    put_asked(lines, &options.asked);
+}
+
+/// Puts the line of the command that reproduces a verdict: `repeat: bgp judge OPTIONS FILE`, with
+/// `FILE` for the file's name.
 pub fn put_judge_line<W: Sink>(lines: &mut Lines<'_, W>, options: &JudgeOptions)
     ensures { Writes lines.old lines.new (judge_line options.now) }
 {

@@ -55,7 +55,7 @@ pub use as_number::sent_as_number;
 pub use asking::asked_of;
 pub use end::{EndName, put_end, put_part_end};
 pub use framed_alike::are_framed_alike;
-pub use judge_line::put_judge_line;
+pub use judge_line::{put_command, put_judge_line};
 pub use laws::{a_capture_is_read_alike, each_item_has_its_text, records_are_framed_alike};
 pub use lines::{put_no, put_not_judged, put_unfinished, put_why, put_yes};
 pub use of_capture::capture_options;

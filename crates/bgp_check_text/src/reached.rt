@@ -32,12 +32,12 @@ const ESTABLISHED: u16 = 6;
 #[derive(Drop)]
 pub struct Reached<A: Allocator = Global> {
     /// The number of the highest state that its records tell (RFC 6396, 4.4.1).
-    pub(crate) highest: u16,
+    pub highest: u16,
     /// If it may have ended in a lower state than Established: the ends of the longest front of
     /// its records that has one in Established, without an UPDATE that was refused.
-    pub(crate) before: Vec<End<A>, A>,
+    pub before: Vec<End<A>, A>,
     /// How many routes these have, each number once, ascending.
-    pub(crate) counts: Vec<usize, A>,
+    pub counts: Vec<usize, A>,
 }
 
 /// Returns the possible ends, of a yes.

@@ -21,11 +21,16 @@ use std::alloc::Allocator;
 /// greatest `u64`.
 #[derive(Clone, Copy)]
 pub struct Tally {
-    yes: u64,
-    no: u64,
-    unfinished: u64,
-    not_judged: u64,
-    refused: u64,
+    /// Ends that are a yes.
+    pub yes: u64,
+    /// Those that are a no.
+    pub no: u64,
+    /// Those that are unfinished.
+    pub unfinished: u64,
+    /// Those that aren't judged.
+    pub not_judged: u64,
+    /// Refusals.
+    pub refused: u64,
     /// Something is refused, or of an end that isn't judged what has to be there isn't recorded.
     incomplete: bool,
     /// Memory was refused.
@@ -182,7 +187,7 @@ impl Tally {
 
     /// Whether something is told of an end or of the file where what is well is left out: a no, what
     /// is unfinished, a refusal, or that there is nothing.
-    fn has_trouble(&self) -> bool
+    pub fn has_trouble(&self) -> bool
         ensures { result ≡ has_trouble self.now }
     {
         0 < self.no || 0 < self.unfinished || 0 < self.refused || self.is_empty()

@@ -26,3 +26,4 @@ pub mod Records
 pub mod Frames
 pub mod Streams
 pub mod Captures
+pub mod Visible

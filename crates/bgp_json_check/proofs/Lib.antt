@@ -1,0 +1,3 @@
+mod InParts
+mod Shallow
+pub mod Told

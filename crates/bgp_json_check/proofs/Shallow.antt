@@ -1,0 +1,113 @@
+-- The objects of lines nest less deep than a reader of JSON goes.
+use Rattle.std.proofs.Common.{◌≤◌, ◌++◌, ℕ, List, [], ◌∷◌, Option, None, Some, arith, codes}
+use Rattle.json.specs.Json.{Json, max_depth, string}
+use Rattle.json.specs.Tree.{depth}
+use Rattle.bgp_path.specs.Path.{PathValue}
+use Rattle.bgp_update.specs.declared.destination.Destination.{Destination}
+use Rattle.bgp_open.specs.declared.families.Families.{Families}
+use Rattle.bgp_check.specs.declared.peer_as.PeerAs.{PeerAs}
+use Rattle.bgp_check.specs.declared.peer_as.PeerAs.TheVariants as peers
+use Rattle.bgp_json.specs.Object.{typed}
+use Rattle.bgp_json_values.specs.Objects.{number_of}
+use Rattle.bgp_json_values.specs.ErrorJson.{error_members}
+use Rattle.bgp_json_values.proofs.Depths.{AreWithin, array_depth, both_within, error_within}
+use Rattle.bgp_json_verdicts.specs.At.{place_members}
+use Rattle.bgp_ended.specs.Values.{HowValue, Notified, Closed, Fallen}
+use Rattle.bgp_list.specs.EndedJson.{how_members}
+use Rattle.bgp_why.specs.declared.place.Place.{Place}
+use Rattle.bgp_json_verdicts.specs.Lines.{ReasonValue}
+use Rattle.bgp_json_verdicts.specs.Objects.{family_texts, reason_members, reason_type}
+use Rattle.bgp_json_verdicts.specs.RouteJson.{route_members}
+use Rattle.bgp_json_verdicts.proofs.Shallow.{place_within, reason_within, route_within, shallow}
+use Rattle.bgp_list.specs.JsonMembers.{endpoint_members, number_members}
+use Rattle.bgp_why.specs.declared.endpoint.Endpoint.{Endpoint}
+use Rattle.bgp_json_check.specs.Members.{all_members, before_members, deed_members, disabled_members, end_members, member_of, part_members, peer_members}
+use Rattle.bgp_json_check.specs.Objects.{ended_json, judged_json, reason_json, route_json}
+use Rattle.bgp_json_check.specs.declared.member.JudgedEnd.{JudgedEnd}
+use Rattle.bgp_json_check.specs.declared.member.Member.{Member}
+use Rattle.bgp_json_check.specs.declared.member.Member.TheVariants as members
+
+-- ---- members
+
+number_within : (key : List ℕ) (number : Option ℕ) → AreWithin 6 (number_members key number)
+number_within key None = tt
+number_within key (Some number) = (omega arith, tt)
+
+endpoint_within : (key port_key : List ℕ) (end : Endpoint) → AreWithin 6 (endpoint_members key port_key end)
+endpoint_within key port_key end = (omega arith, number_within port_key end.port)
+
+part_within : (part : Option (ℕ × ℕ)) → AreWithin 6 (part_members part)
+part_within None = tt
+part_within (Some part) = (let d = array_depth 0 number_of (part.0 ∷ part.1 ∷ []) (λ n. omega arith) in omega (arith, d), tt)
+
+end_within : (name : JudgedEnd) → AreWithin 6 (end_members name)
+end_within name =
+    both_within 6 (endpoint_members (codes "address") (codes "port") name.end) (number_members (codes "as") name.as_number ++ part_members name.part) (endpoint_within (codes "address") (codes "port") name.end)
+    (both_within 6 (number_members (codes "as") name.as_number) (part_members name.part) (number_within (codes "as") name.as_number) (part_within name.part))
+
+peer_within : (peer : PeerAs) → AreWithin 6 (peer_members peer)
+peer_within peers.Any = tt
+peer_within (peers.Is number) = (omega arith, tt)
+peer_within (peers.OtherThan number) = (omega arith, tt)
+
+deed_within : (deed : List ℕ) → AreWithin 6 (deed_members deed)
+deed_within [] = tt
+deed_within (x ∷ deed) = (omega arith, tt)
+
+disabled_within : (families : Families) → AreWithin 6 (disabled_members families)
+disabled_within families = (let d = array_depth 0 string (family_texts families) (λ t. omega arith) in omega (arith, d), tt)
+
+before_within : (counts : List ℕ) → AreWithin 6 (before_members counts)
+before_within [] = tt
+before_within (count ∷ counts) = (let d = array_depth 0 number_of (count ∷ counts) (λ n. omega arith) in omega (arith, d), tt)
+
+member_within : (m : Member) → AreWithin 6 (member_of m)
+member_within (members.Number key number) = (omega arith, tt)
+member_within (members.Word key word) = (omega arith, tt)
+member_within (members.Text key text) = (omega arith, tt)
+member_within (members.Place place) = place_within place
+member_within (members.End name) = end_within name
+member_within (members.Peer peer) = peer_within peer
+member_within (members.Deed deed) = deed_within deed.now
+member_within (members.Direction direction) = (omega arith, tt)
+member_within (members.State state) = (omega arith, tt)
+member_within (members.Reached number) = (omega arith, tt)
+member_within (members.Disabled families) = disabled_within families
+member_within (members.Before counts) = before_within counts.now
+
+members_within : (ms : List Member) → AreWithin 6 (all_members ms)
+members_within [] = tt
+members_within (m ∷ []) = member_within m
+members_within (m ∷ n ∷ ms) = both_within 6 (member_of m) (all_members (n ∷ ms)) (member_within m) (members_within (n ∷ ms))
+
+-- ---- how a session ended
+
+wider : (ms : List (List ℕ × Json)) → AreWithin 2 ms → AreWithin 6 ms
+wider [] each = tt
+wider (m ∷ ms) each = let d = each.0 in (omega (arith, d), wider ms each.1)
+
+how_within : (how : HowValue) → AreWithin 6 (how_members how)
+how_within (Notified error) = (omega arith, wider (error_members error) (error_within error))
+how_within (Closed closing) = (omega arith, tt)
+how_within (Fallen state) = (omega arith, (omega arith, (omega arith, tt)))
+
+-- ---- objects
+
+pub plain_shallow : (kind : List ℕ) (ms : List Member) → depth (typed kind (all_members ms)) ≤ max_depth
+plain_shallow kind ms = shallow kind (all_members ms) (members_within ms)
+
+pub judged_shallow : (kind : List ℕ) (judged : ℕ) (ms : List Member) → depth (judged_json kind judged (all_members ms)) ≤ max_depth
+judged_shallow kind judged ms = shallow kind ((codes "judged", number_of judged) ∷ all_members ms) (omega arith, members_within ms)
+
+pub route_shallow : (kind : List ℕ) (judged end : ℕ) (destination : Destination) (path : PathValue) → depth (route_json kind judged end (destination, path)) ≤ max_depth
+route_shallow kind judged end destination path =
+    shallow kind ((codes "judged", number_of judged) ∷ (codes "end", number_of end) ∷ route_members destination path) (omega arith, (omega arith, route_within destination path))
+
+pub ended_shallow : (judged : ℕ) (place : Place) (by : Endpoint) (how : HowValue) → depth (ended_json judged place by how) ≤ max_depth
+ended_shallow judged place by how =
+    let ends = endpoint_members (codes "by") (codes "by_port") by in
+    shallow (codes "ended") ((codes "judged", number_of judged) ∷ (place_members place ++ (ends ++ how_members how)))
+    (omega arith, both_within 6 (place_members place) (ends ++ how_members how) (place_within place) (both_within 6 ends (how_members how) (endpoint_within (codes "by") (codes "by_port") by) (how_within how)))
+
+pub reason_shallow : (judged : ℕ) (reason : ReasonValue) → depth (reason_json judged reason) ≤ max_depth
+reason_shallow judged reason = shallow (reason_type reason) ((codes "judged", number_of judged) ∷ reason_members reason) (omega arith, reason_within reason)

@@ -1,0 +1,5 @@
+mod Chains
+mod Connections
+mod Hearing
+mod Phases
+mod WayEnds

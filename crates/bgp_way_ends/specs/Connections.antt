@@ -1,0 +1,38 @@
+-- All ends in which the session of a connection can have ended, in the states that a yes lists.
+use Rattle.std.specs.Prelude.{◌≡◌, ◌↔◌, ℕ, List}
+use Rattle.streams.specs.declared.connection.Connection.{Connection}
+use Rattle.bgp_open.specs.declared.config.Config.{Config}
+use Rattle.bgp_machine.specs.Lists.{Has}
+use Rattle.bgp_machine.specs.Run.{End}
+use Rattle.bgp_recording.specs.declared.entry.Entry.{Entry}
+use Rattle.bgp_recording.specs.declared.framing.Framings.{Framings}
+use Rattle.bgp_recording.specs.declared.framing.Unshown.{Unshown}
+use Rattle.bgp_recording.specs.Captured.{records_of}
+use Rattle.bgp_recording.specs.Gathered.{IsClocked}
+use Rattle.bgp_recording.specs.Recorded.{IsRecorded}
+use Rattle.bgp_judge.specs.Ends.{ListsEnds}
+use Rattle.bgp_orders.specs.WholeWays.{AreOfAWayOver, CanHaveEnded}
+
+-- an end in this state is listed
+abbrev pub ListsState : List End → End → Type 0
+ListsState ends e = Has (λ x. x.fsm ≡ e.fsm) ends
+
+-- Of the entries of a way of the connection's messages these ends are listed. Then just these are
+-- the ends, in their states, in which the session can have ended by some way.
+abbrev pub WayListsAllEnds : Type 0
+WayListsAllEnds =
+    (config : Config) (within : ℕ) (framings : Framings) (connection : Connection)
+    (entries : List Entry) (received sent : Unshown) (ends : List End) (e : End)
+    → IsClocked connection
+    → AreOfAWayOver framings within connection entries received sent
+    → ListsEnds config (records_of entries) ends → ListsState ends e
+    → CanHaveEnded config within framings connection e ↔ Has (λ x. x ≡ e) ends
+
+-- And so they are all of these, if the entries are those of the order that is made.
+abbrev pub MadeOrderListsAllEnds : Type 0
+MadeOrderListsAllEnds =
+    (config : Config) (within : ℕ) (framings : Framings) (connection : Connection)
+    (entries : List Entry) (received sent : Unshown) (ends : List End) (e : End)
+    → IsClocked connection → IsRecorded framings within connection entries received sent
+    → ListsEnds config (records_of entries) ends → ListsState ends e
+    → CanHaveEnded config within framings connection e → Has (λ x. x ≡ e) ends

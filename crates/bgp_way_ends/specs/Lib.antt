@@ -1,0 +1,2 @@
+pub mod WayEnds
+pub mod Connections

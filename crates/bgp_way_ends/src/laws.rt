@@ -1,0 +1,45 @@
+//! Laws of the ends of whole ways, each on a function that does nothing.
+
+ghost use Rattle.bgp_way_ends.specs.Connections.{MadeOrderListsAllEnds, WayListsAllEnds};
+ghost use Rattle.bgp_way_ends.specs.WayEnds.{EntriesTellAllEnds, OneWayForEachState};
+ghost use Rattle.bgp_way_ends.specs.WayEnds.{OneWayTellsAllEnds, WholeWaysEndAlike};
+
+use bgp_judge::{a_member_is_reached, records_tell_the_state};
+use bgp_orders::{runs_of_entries_are_whole, whole_ways_are_reached};
+
+/// States that two whole ways of an exchange that end in one state have the same ends. So the ends
+/// of one of them, and of the entries of one, are all in which the session can have ended in that
+/// state. Elsewhere than in Established there are no routes; and in Established they come from the
+/// messages that were received behind the KEEPALIVE that led there, which are the same in each way.
+pub fn whole_ways_end_alike()
+    ensures ways { WholeWaysEndAlike }
+    ensures one { OneWayTellsAllEnds }
+    ensures entries { EntriesTellAllEnds }
+{
+    a_member_is_reached();
+    records_tell_the_state();
+    runs_of_entries_are_whole();
+}
+
+/// States that the session can have ended so exactly where one of some whole ways ends so, if for
+/// each node that is reached at which nothing is left one of these ways ends in its state.
+pub fn one_way_for_each_state_is_enough()
+    ensures { OneWayForEachState }
+{
+    whole_ways_end_alike();
+    whole_ways_are_reached();
+}
+
+/// States that a yes on a connection lists all ends in its states, whatever order they are of. Of
+/// the records of a way, as [`record_whole_way`](bgp_orders::record_whole_way) returns them, these
+/// ends are listed, and of those that [`make_records`](bgp_recording::make_records) makes: then the
+/// session can have ended, by any order that the packets allow, in no other end in the state of a
+/// listed one.
+pub fn a_yes_lists_all_ends_in_its_states()
+    ensures way { WayListsAllEnds }
+    ensures made { MadeOrderListsAllEnds }
+{
+    a_member_is_reached();
+    records_tell_the_state();
+    runs_of_entries_are_whole();
+}
