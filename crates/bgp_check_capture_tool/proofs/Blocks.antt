@@ -9,9 +9,10 @@ use Rattle.mrt_sessions.specs.File.{Located}
 use Rattle.mrt_sessions.specs.Sessions.{HoldsSessions, held_records, held_sessions, is_between, records_between, sessions_in}
 use Rattle.mrt_sessions.specs.declared.addresses.Addresses.{Addresses}
 use Rattle.mrt_sessions.specs.declared.sessions.Sessions.{Sessions}
-use Rattle.bgp_text.specs.Lines.{Writes}
-use Rattle.bgp_text.specs.declared.lines.Lines.{Lines}
-use Rattle.bgp_text.proofs.Pieces.{Joins, and_then}
+use Rattle.bgp_text.proofs.Pieces.{Joins}
+use Rattle.bgp_check_lines.specs.Lines.{PutsLines}
+use Rattle.bgp_check_lines.specs.declared.check_lines.CheckLines.{CheckLines}
+use Rattle.bgp_check_lines.proofs.Puts.{then_lines}
 use Rattle.bgp_check_text.specs.Tally.{no_tally}
 use Rattle.bgp_check_text.specs.declared.quiet.Printing.{Printing}
 use Rattle.bgp_check_text.specs.declared.tally.Tally.{Tally}
@@ -54,16 +55,16 @@ all_of : {X : Type 0} (P : X → Type 0) (xs : List X) (one : X) → AllByRecurs
 all_of P [] one all p = (p, tt)
 all_of P (b ∷ xs) one all p = (all.0, all_of P xs one all.1 p)
 
-pub none_put : {T : Type 0} {sink : sinks.Ghosts T} (telling : Telling) (named : List Located) (lines : Lines T sink) (tally : Tally) (firsts : List (Option CaptureFault)) → Writes lines lines [] → tally ≡ no_tally
+pub none_put : {Y T : Type 0} {sink : sinks.Ghosts T} (telling : Telling) (named : List Located) (lines : CheckLines Y T sink) (tally : Tally) (firsts : List (Option CaptureFault)) → PutsLines lines lines [] → tally ≡ no_tally
     → firsts ≡ [] → PutsBlocks telling named [] lines lines no_tally tally [] firsts
 none_put telling named lines tally firsts wrote none nothing = record { blocks = []; are = refl; told = tt; wrote = wrote; tallied = none; added = nothing }
 
-pub one_put : {T Z : Type 0} {sink : sinks.Ghosts T} → Joins sink → (telling : Telling) (named : List Located) (sessions : Sessions Z) (known : List Addresses) (i : ℕ) (d : Addresses)
-    (lines middle lines' : Lines T sink) (between tally : Tally) (among firsts : List (Option CaptureFault)) → known ≡ held_sessions sessions → i < length known → HoldsSessions named sessions
+pub one_put : {Y T Z : Type 0} {sink : sinks.Ghosts T} → Joins sink → (telling : Telling) (named : List Located) (sessions : Sessions Z) (known : List Addresses) (i : ℕ) (d : Addresses)
+    (lines middle lines' : CheckLines Y T sink) (between tally : Tally) (among firsts : List (Option CaptureFault)) → known ≡ held_sessions sessions → i < length known → HoldsSessions named sessions
     → PutsBlocks telling named (take i (held_sessions sessions)) lines middle no_tally between [] among
     → PutsSession telling (get_or known i d) (held_records sessions (get_or known i d)) middle lines' between tally among firsts
     → PutsBlocks telling named (take (i + 1) (held_sessions sessions)) lines lines' no_tally tally [] firsts
-one_put {T} {Z} law telling named sessions known i d lines middle lines' between tally among firsts same within holds so_far puts =
+one_put {Y} {T} {Z} law telling named sessions known i d lines middle lines' between tally among firsts same within holds so_far puts =
     let addresses = get_or known i d in
     let block : Block = record { addresses = addresses; ends = puts.ends; fault = puts.fault } in
     let mine = holds.each addresses in
@@ -72,14 +73,14 @@ one_put {T} {Z} law telling named sessions known i d lines middle lines' between
       are = map-append (λ (b : Block). b.addresses) so_far.blocks (block ∷ []) ∙ ap (λ (xs : List Addresses). xs ++ addresses ∷ []) so_far.are
           ∙ subst (λ (ks : List Addresses). take i ks ++ addresses ∷ [] ≡ take (i + 1) ks) same (sym (take_more known i d within));
       told = all_of (IsBlock telling named) so_far.blocks block so_far.told (subst (λ (rs : List Located). IsSessionTold telling addresses rs puts.ends puts.fault) mine puts.told);
-      wrote = subst (λ (text : List ℕ). Writes lines lines' text) (text_of telling.printing named so_far.blocks block) (and_then law so_far.wrote (subst (λ (rs : List Located). Writes middle lines' (session_text telling.printing.quiet (session_line addresses rs) (ends_text telling.printing addresses.local puts.ends ++ fault_text puts.fault))) mine puts.wrote));
+      wrote = subst (λ (text : List ℕ). PutsLines lines lines' text) (text_of telling.printing named so_far.blocks block) (then_lines law so_far.wrote (subst (λ (rs : List Located). PutsLines middle lines' (session_text telling.printing.quiet (session_line addresses rs) (ends_text telling.printing addresses.local puts.ends ++ fault_text puts.fault))) mine puts.wrote));
       tallied = puts.tallied ∙ ap (λ (t : Tally). with_block t block) so_far.tallied ∙ tally_of no_tally so_far.blocks block;
       added = puts.added ∙ ap (λ (fs : List (Option CaptureFault)). with_first fs block.fault) so_far.added ∙ firsts_of [] so_far.blocks block;
     }
 
-pub all_put : {T Z : Type 0} {sink : sinks.Ghosts T} (telling : Telling) (named : List Located) (sessions : Sessions Z) (known : List Addresses) (i : ℕ) (lines lines' : Lines T sink) (tally : Tally) (firsts : List (Option CaptureFault))
+pub all_put : {Y T Z : Type 0} {sink : sinks.Ghosts T} (telling : Telling) (named : List Located) (sessions : Sessions Z) (known : List Addresses) (i : ℕ) (lines lines' : CheckLines Y T sink) (tally : Tally) (firsts : List (Option CaptureFault))
     → known ≡ held_sessions sessions → length known ≤ i → HoldsSessions named sessions → PutsBlocks telling named (take i (held_sessions sessions)) lines lines' no_tally tally [] firsts
     → PutsBlocks telling named (sessions_in named) lines lines' no_tally tally [] firsts
-all_put {T} {Z} telling named sessions known i lines lines' tally firsts same past holds puts =
+all_put {Y} {T} {Z} telling named sessions known i lines lines' tally firsts same past holds puts =
     subst (λ (ks : List Addresses). PutsBlocks telling named ks lines lines' no_tally tally [] firsts)
     (take_all i (held_sessions sessions) (subst (λ (ks : List Addresses). length ks ≤ i) same past) ∙ holds.in_order) puts

@@ -1,12 +1,7 @@
 -- The status of a text that was handed over.
 use Rattle.std.proofs.Common.{◌≡◌, ◌∙◌, ◌⊎◌, ℕ, Bool, IsFalse, IsTrue, inl, inr}
 
-pub told_as : (failed : Bool) (status one wanted : ℕ) → (IsFalse failed × (status ≡ one)) ⊎ (IsTrue failed × (status ≡ 5)) → one ≡ wanted
-    → (IsFalse failed × (status ≡ wanted)) ⊎ (IsTrue failed × (status ≡ 5))
-told_as failed status one wanted (inl calm) is = inl (calm.0, calm.1 ∙ is)
-told_as failed status one wanted (inr broken) is = inr broken
-
--- and the same of a status that is this one
+-- that of a status that is this one
 pub coded_as : (failed : Bool) (code status wanted : ℕ) → code ≡ status → (IsFalse failed × (status ≡ wanted)) ⊎ (IsTrue failed × (status ≡ 5))
     → (IsFalse failed × (code ≡ wanted)) ⊎ (IsTrue failed × (code ≡ 5))
 coded_as failed code status wanted is (inl calm) = inl (calm.0, is ∙ calm.1)

@@ -6,7 +6,7 @@ use Rattle.bgp_prefix.specs.Shown.{ShownRecord}
 use Rattle.bgp_prefix.specs.declared.address.Address.{Address}
 use Rattle.mrt.specs.declared.sink.Sink as sinks
 use Rattle.bgp_machine.specs.Lists.{Each}
-use Rattle.bgp_text.specs.declared.lines.Lines.{Lines}
+use Rattle.bgp_check_lines.specs.declared.check_lines.CheckLines.{CheckLines}
 use Rattle.bgp_text.proofs.Pieces.{Joins}
 use Rattle.bgp_check.specs.Cut.{IsWholeStretch, joined}
 use Rattle.bgp_check.specs.Stretch.{LeavesIdle}
@@ -73,8 +73,8 @@ told_more view before (s ∷ stretches) stretch behind (e ∷ ends) end told is 
 
 -- These records are told so far, of which so many are: what stands before the first stretch and some
 -- stretches. This rest is left.
-pub record SoFar {T : Type 0} {sink : sinks.Ghosts T} (heading : List ℕ) (printing : Printing) (view : View) (records rest : List ShownRecord) (before : ℕ)
-    (lines lines' : Lines T sink) (tally : Tally) (put : Put) : Type 0 where
+pub record SoFar {Y T : Type 0} {sink : sinks.Ghosts T} (heading : List ℕ) (printing : Printing) (view : View) (records rest : List ShownRecord) (before : ℕ)
+    (lines lines' : CheckLines Y T sink) (tally : Tally) (put : Put) : Type 0 where
   pub front : List ShownRecord
   pub stretches : List (List ShownRecord)
   pub ends : List End
@@ -85,11 +85,11 @@ pub record SoFar {T : Type 0} {sink : sinks.Ghosts T} (heading : List ℕ) (prin
   pub tallied : put.tally ≡ with_ends tally (front_ends front ++ ends)
 
 -- none is yet
-pub none_told : {T : Type 0} {sink : sinks.Ghosts T} (heading : List ℕ) (printing : Printing) (view : View) (records front rest : List ShownRecord) (count before : ℕ) (lines lines' : Lines T sink) (tally : Tally) (put : Put)
+pub none_told : {Y T : Type 0} {sink : sinks.Ghosts T} (heading : List ℕ) (printing : Printing) (view : View) (records front rest : List ShownRecord) (count before : ℕ) (lines lines' : CheckLines Y T sink) (tally : Tally) (put : Put)
     → before ≡ length front → (is : IsBeforeLeaving records count) → front ≡ is.front → rest ≡ is.rest
     → Adds heading lines lines' (not printing.quiet) put.is_headed (ends_text printing view.session.local (front_ends front))
     → put.tally ≡ with_ends tally (front_ends front) → SoFar heading printing view records rest before lines lines' tally put
-none_told {T} {sink} heading printing view records front rest count before lines lines' tally put is_before is is_front is_rest adds tallied =
+none_told {Y} {T} {sink} heading printing view records front rest count before lines lines' tally put is_before is is_front is_rest adds tallied =
     let none : front_ends front ++ [] ≡ front_ends front = append-nil (front_ends front) in
     record {
       front = front;
@@ -108,12 +108,12 @@ none_told {T} {sink} heading printing view records front rest count before lines
     }
 
 -- one more is
-pub one_told : {T : Type 0} {sink : sinks.Ghosts T} → Joins sink → (heading : List ℕ) (printing : Printing) (view : View) (records rest stretch behind : List ShownRecord) (before count : ℕ) (end : End)
-    (lines middle lines' : Lines T sink) (tally : Tally) (between put : Put) → SoFar heading printing view records rest before lines middle tally between
+pub one_told : {Y T : Type 0} {sink : sinks.Ghosts T} → Joins sink → (heading : List ℕ) (printing : Printing) (view : View) (records rest stretch behind : List ShownRecord) (before count : ℕ) (end : End)
+    (lines middle lines' : CheckLines Y T sink) (tally : Tally) (between put : Put) → SoFar heading printing view records rest before lines middle tally between
     → IsFirst rest stretch behind → count ≡ length stretch → IsToldOf view before stretch (first_of behind) end
     → Adds heading middle lines' between.is_headed put.is_headed (kept_text printing view.session.local end)
     → put.tally ≡ with_one between.tally end → SoFar heading printing view records behind (before + count) lines lines' tally put
-one_told {T} {sink} law heading printing view records rest stretch behind before count end lines middle lines' tally between put so_far first is_count is adds tallied =
+one_told {Y} {T} {sink} law heading printing view records rest stretch behind before count end lines middle lines' tally between put so_far first is_count is adds tallied =
     let front = so_far.front in
     let stretches = so_far.stretches in
     let longer : front_ends front ++ (so_far.ends ++ end ∷ []) ≡ (front_ends front ++ so_far.ends) ++ end ∷ [] = sym (append_assoc (front_ends front) so_far.ends (end ∷ [])) in
@@ -140,7 +140,7 @@ one_told {T} {sink} law heading printing view records rest stretch behind before
     }
 
 -- all are, or all but the rest
-pub told_up_to : {T : Type 0} {sink : sinks.Ghosts T} (heading : List ℕ) (printing : Printing) (view : View) (records rest : List ShownRecord) (before : ℕ) (all : Bool) (lines lines' : Lines T sink) (tally : Tally) (put : Put)
+pub told_up_to : {Y T : Type 0} {sink : sinks.Ghosts T} (heading : List ℕ) (printing : Printing) (view : View) (records rest : List ShownRecord) (before : ℕ) (all : Bool) (lines lines' : CheckLines Y T sink) (tally : Tally) (put : Put)
     → (IsTrue all ↔ rest ≡ []) → SoFar heading printing view records rest before lines lines' tally put
     → Puts heading printing view.session.local lines lines' tally put (StretchesUpTo view records all)
 told_up_to heading printing view records rest before all lines lines' tally put done so_far = record {

@@ -9,7 +9,7 @@ use Rattle.mrt_sessions.specs.Reading.{IsReading}
 use Rattle.mrt_sessions.specs.declared.addresses.Addresses.{Addresses}
 use Rattle.mrt_sessions.specs.declared.lengths.ExtendedMessages.{ExtendedMessages}
 use Rattle.bgp_machine.specs.Lists.{Has}
-use Rattle.bgp_text.specs.declared.lines.Lines.{Lines}
+use Rattle.bgp_check_lines.specs.declared.check_lines.CheckLines.{CheckLines}
 use Rattle.bgp_check.specs.SessionOffers.{HearsOffer, SendsOffer}
 use Rattle.bgp_list.specs.Capture.{no_memory}
 use Rattle.bgp_list.specs.Sessions.{session_line}
@@ -26,8 +26,8 @@ pub seen_as : (telling : Telling) (addresses : Addresses) (named : List Located)
     → ◌≡◌ {A = View} (record { telling = after; session = session; named = named }) (view_of telling addresses named refusal)
 seen_as telling addresses named refusal after session is_after is_session = λ i. record { telling = is_after i; session = is_session i; named = named }
 
-pub all_told : {T : Type 0} {sink : sinks.Ghosts T} (telling : Telling) (addresses : Addresses) (named : List Located) (view : View) (records shown : List ShownRecord) (extended : ExtendedMessages)
-    (refusal fault : Option CaptureFault) (all : Bool) (lines lines' : Lines T sink) (tally : Tally) (put : Put) → view ≡ view_of telling addresses named refusal → records ≡ shown
+pub all_told : {Y T : Type 0} {sink : sinks.Ghosts T} (telling : Telling) (addresses : Addresses) (named : List Located) (view : View) (records shown : List ShownRecord) (extended : ExtendedMessages)
+    (refusal fault : Option CaptureFault) (all : Bool) (lines lines' : CheckLines Y T sink) (tally : Tally) (put : Put) → view ≡ view_of telling addresses named refusal → records ≡ shown
     → (IsTrue extended.received ↔ Has SendsOffer named) → (IsTrue extended.sent ↔ Has HearsOffer named) → IsReading addresses extended named shown refusal
     → (IsTrue all × (fault ≡ refusal)) ⊎ ((¬ IsTrue all) × (fault ≡ Some no_memory)) → Puts (heading_of view) view.telling.printing view.session.local lines lines' tally put (RecordsUpTo view records all)
     → Puts (session_line addresses named) telling.printing addresses.local lines lines' tally put (λ ends. IsSessionTold telling addresses named ends fault)

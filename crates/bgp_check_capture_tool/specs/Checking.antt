@@ -1,6 +1,6 @@
 -- What checking a capture writes and answers.
 use Rattle.std.specs.Prelude.{◌≡◌, ◌⊎◌, ◌+◌, ◌++◌, ℕ, Bool, true, false, List, [], ◌∷◌, map}
-use Rattle.std.specs.Prelude.{Option, None, Some, codes, length, if◌then◌else◌}
+use Rattle.std.specs.Prelude.{Option, None, Some, length, if◌then◌else◌}
 use Rattle.std.specs.List.{AllByRecursion, flat_map}
 use Rattle.mrt.specs.declared.fault.CaptureFault.{CaptureFault}
 use Rattle.mrt.specs.declared.fault.FaultKind.{FaultKind}
@@ -10,9 +10,10 @@ use Rattle.mrt_sessions.specs.Held.{IsHeld, failures_by}
 use Rattle.mrt_sessions.specs.Sessions.{records_between, sessions_in}
 use Rattle.mrt_sessions.specs.declared.addresses.Addresses.{Addresses}
 use Rattle.mrt_sessions.specs.declared.holding.Ending.{Ending}
-use Rattle.bgp_text.specs.Lines.{Writes}
-use Rattle.bgp_text.specs.declared.lines.Lines.{Lines}
-use Rattle.bgp_tool.specs.Answer.{IsWritten}
+use Rattle.bgp_check_lines.specs.Lines.{PutsLines}
+use Rattle.bgp_check_lines.specs.declared.check_lines.CheckLines.{CheckLines}
+use Rattle.bgp_check_lines.specs.Printed.{IsWrittenIn}
+use Rattle.bgp_check_lines.specs.Values.{no_record_line}
 use Rattle.bgp_list.specs.Capture.{no_memory}
 use Rattle.bgp_list.specs.Sessions.{fault_text, session_line}
 use Rattle.bgp_check_text.specs.Tally.{has_verdict, is_empty, is_incomplete, no_tally, status_of}
@@ -64,13 +65,13 @@ faults_in blocks = map (λ (block : Block). block.fault) blocks
 
 -- Blocks of these sessions were put, and are counted; of their refusals the first of each number is
 -- added to those that are.
-pub record PutsBlocks {T : Type 0} {sink : sinks.Ghosts T} (telling : Telling)
-    (named : List Located) (sessions : List Addresses) (lines lines' : Lines T sink)
+pub record PutsBlocks {Y T : Type 0} {sink : sinks.Ghosts T} (telling : Telling)
+    (named : List Located) (sessions : List Addresses) (lines lines' : CheckLines Y T sink)
     (tally tally' : Tally) (firsts firsts' : List (Option CaptureFault)) : Type 0 where
   pub blocks : List Block
   pub are : map (λ b. b.addresses) blocks ≡ sessions
   pub told : AllByRecursion (IsBlock telling named) blocks
-  pub wrote : Writes lines lines' (blocks_text telling.printing named blocks)
+  pub wrote : PutsLines lines lines' (blocks_text telling.printing named blocks)
   pub tallied : tally' ≡ tally_from tally blocks
   pub added : firsts' ≡ firsts_after firsts (faults_in blocks)
 
@@ -113,17 +114,17 @@ Tells options octets ending text tally firsts count fault =
     ⊎ ((text ≡ []) × (tally ≡ no_tally) × (firsts ≡ []) × (count ≡ 0)
     × (fault ≡ Some no_memory))
 
-pub record PutsFile {T : Type 0} {sink : sinks.Ghosts T} (options : CaptureOptions)
-    (octets : List ℕ) (ending : Ending) (lines lines' : Lines T sink) (tally : Tally)
+pub record PutsFile {Y T : Type 0} {sink : sinks.Ghosts T} (options : CaptureOptions)
+    (octets : List ℕ) (ending : Ending) (lines lines' : CheckLines Y T sink) (tally : Tally)
     (firsts : List (Option CaptureFault)) (count : ℕ) (fault : Option CaptureFault) : Type 0 where
   pub text : List ℕ
-  pub wrote : Writes lines lines' text
+  pub wrote : PutsLines lines lines' text
   pub tells : Tells options octets ending text tally firsts count fault
 
 -- that there is no session, if nothing else is printed
 abbrev pub nothing_text : Tally → List ℕ
 nothing_text tally =
-    if is_empty tally then codes "not judged: no record of a session\n" else []
+    if is_empty tally then no_record_line else []
 
 -- that no end is judged is said if the file was read to its end, and whether more could be, if more
 -- were recorded
@@ -157,7 +158,7 @@ pub record ChecksCapture {S T : Type 0} (gives : S → S → List ℕ → Type 0
     pub counts : tally ≡ with_fault of_sessions fault
     pub are_firsts : firsts ≡ with_first of_blocks fault
     pub is_nothing : nothing ≡ nothing_by tally fault
-    pub written : IsWritten takes failures
+    pub written : IsWrittenIn options.form takes failures
         (text ++ (fault_text fault ++ (nothing_text tally
         ++ last_text options.printing.quiet tally)))
         (status_of tally) sink sink' status

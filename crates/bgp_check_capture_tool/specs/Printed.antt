@@ -19,7 +19,7 @@ use Rattle.bgp_open.specs.declared.config.Config.{Config}
 use Rattle.bgp_machine.specs.Lists.{Each, Has}
 use Rattle.bgp_machine.specs.Run.{Begins}
 use Rattle.bgp_judge.specs.Verdict.{VerdictValue}
-use Rattle.bgp_tool.specs.Answer.{IsWritten}
+use Rattle.bgp_check_lines.specs.Printed.{IsWrittenIn}
 use Rattle.bgp_parts.specs.Opens.{HasHeardOpen, HasOwnOpen}
 use Rattle.bgp_check.specs.Answered.{HasFault, JudgedAs}
 use Rattle.bgp_check.specs.Configurations.{IsOf}
@@ -158,7 +158,7 @@ pub record PrintsTrueNoes {S T : Type 0} (gives : S → S → List ℕ → Type 
     pub text : List ℕ
     pub noes : HasTrueNoes options octets fault text ⊎ (text ≡ [])
     pub tally : Tally
-    pub written : IsWritten takes failures
+    pub written : IsWrittenIn options.form takes failures
         (text ++ (fault_text fault ++ (nothing_text tally
         ++ last_text options.printing.quiet tally)))
         (status_of tally) sink sink' status

@@ -7,8 +7,8 @@ use Rattle.mrt.specs.declared.fault.CaptureFault.{CaptureFault}
 use Rattle.mrt.specs.declared.sink.Sink as sinks
 use Rattle.mrt_sessions.specs.File.{Located}
 use Rattle.mrt_sessions.specs.declared.addresses.Addresses.{Addresses}
-use Rattle.bgp_text.specs.Lines.{Writes}
-use Rattle.bgp_text.specs.declared.lines.Lines.{Lines}
+use Rattle.bgp_check_lines.specs.Lines.{PutsLines}
+use Rattle.bgp_check_lines.specs.declared.check_lines.CheckLines.{CheckLines}
 use Rattle.bgp_list.specs.Sessions.{fault_text, session_line}
 use Rattle.bgp_check_text.specs.declared.quiet.Printing.{Printing}
 use Rattle.bgp_check_text.specs.declared.tally.Tally.{Tally}
@@ -28,9 +28,9 @@ is_some_text (octet ∷ rest) = true
 
 -- This text was put of a session, and before it the session's own line, unless that was put before,
 -- or there is no text.
-pub record Adds {T : Type 0} {sink : sinks.Ghosts T} (heading : List ℕ)
-    (lines lines' : Lines T sink) (before after : Bool) (text : List ℕ) : Type 0 where
-  pub wrote : Writes lines lines' (if before then text else headed heading text)
+pub record Adds {Y T : Type 0} {sink : sinks.Ghosts T} (heading : List ℕ)
+    (lines lines' : CheckLines Y T sink) (before after : Bool) (text : List ℕ) : Type 0 where
+  pub wrote : PutsLines lines lines' (if before then text else headed heading text)
   pub is_headed : after ≡ before || is_some_text text
 
 -- the own line of a session that is seen so
@@ -39,8 +39,8 @@ heading_of view = session_line (addresses_of view.session) view.named
 
 -- Ends of a session that is seen so were put, and are counted: such as are told. Its own line stands
 -- before them, unless what is well is left out and they all are.
-pub record Puts {T : Type 0} {sink : sinks.Ghosts T} (heading : List ℕ) (printing : Printing)
-    (local : Address) (lines lines' : Lines T sink) (tally : Tally) (put : Put)
+pub record Puts {Y T : Type 0} {sink : sinks.Ghosts T} (heading : List ℕ) (printing : Printing)
+    (local : Address) (lines lines' : CheckLines Y T sink) (tally : Tally) (put : Put)
     (AreTold : List End → Type 0) : Type 0 where
   pub ends : List End
   pub told : AreTold ends
@@ -61,13 +61,13 @@ RecordsUpTo view records all ends =
 
 -- A session was put, and is counted; its refusal is added to those that are the first of their
 -- number.
-pub record PutsSession {T : Type 0} {sink : sinks.Ghosts T} (telling : Telling)
-    (addresses : Addresses) (named : List Located) (lines lines' : Lines T sink)
+pub record PutsSession {Y T : Type 0} {sink : sinks.Ghosts T} (telling : Telling)
+    (addresses : Addresses) (named : List Located) (lines lines' : CheckLines Y T sink)
     (tally tally' : Tally) (firsts firsts' : List (Option CaptureFault)) : Type 0 where
   pub ends : List End
   pub fault : Option CaptureFault
   pub told : IsSessionTold telling addresses named ends fault
-  pub wrote : Writes lines lines'
+  pub wrote : PutsLines lines lines'
       (session_text telling.printing.quiet (session_line addresses named)
       (ends_text telling.printing addresses.local ends ++ fault_text fault))
   pub tallied : tally' ≡ with_fault (with_ends tally ends) fault

@@ -1,16 +1,16 @@
 -- The lines of a session.
-use Rattle.std.specs.Prelude.{◌++◌, Bool, ℕ, List, [], ◌∷◌, codes, if◌then◌else◌}
+use Rattle.std.specs.Prelude.{◌++◌, Bool, ℕ, List, [], ◌∷◌, Some, codes, if◌then◌else◌}
 use Rattle.std.specs.List.{flat_map}
 use Rattle.bgp_prefix.specs.declared.address.Address.{Address}
 use Rattle.bgp_judge.specs.Verdict.{No, Unfinished, VerdictValue, Yes}
 use Rattle.bgp_check.specs.Answered.{AnswerValue, JudgedAs, Unjudged}
 use Rattle.bgp_check.specs.declared.not_judged.NotJudged.TheVariants.{NothingSent}
 use Rattle.bgp_check.specs.declared.peer_as.PeerAs.{PeerAs}
-use Rattle.bgp_check_text.specs.End.{part_end_text}
 use Rattle.bgp_check_text.specs.Text.{no_line, not_judged_line, unfinished_line, why_text}
 use Rattle.bgp_check_text.specs.Text.{yes_lines}
 use Rattle.bgp_check_text.specs.Quiet.{is_left_out}
 use Rattle.bgp_check_text.specs.Unshown.{passed_notes}
+use Rattle.bgp_check_lines.specs.Values.{unnamed_line}
 use Rattle.bgp_check_text.specs.declared.quiet.Printing.{Printing}
 use Rattle.bgp_check_capture_tool.specs.Ends.{End, Silent, Staying, Stretch}
 use Rattle.bgp_check_capture_tool.specs.StretchEnd.{StretchEnd}
@@ -19,10 +19,8 @@ use Rattle.bgp_check_capture_tool.specs.Naming.{endpoint_of}
 use Rattle.bgp_check_capture_tool.specs.ToldEnd.{is_over, told_end_line}
 
 -- the line of the first records of a session, so many, that aren't judged
-unfoldable pub unjudged_line : Address → ℕ → List ℕ → List ℕ
-unjudged_line local count why =
-    codes "not judged: " ++ (part_end_text (endpoint_of local) (1, count) ++ (codes ": "
-    ++ (why ++ codes "\n")))
+abbrev pub unjudged_line : Address → ℕ → List ℕ → List ℕ
+unjudged_line local count why = unnamed_line (endpoint_of local) (Some (1, count)) why
 
 -- ---- a stretch
 

@@ -1,6 +1,6 @@
 -- How a stretch ended, as its line tells it.
 use Rattle.std.specs.Prelude.{◌≡◌, ◌+◌, ℕ, Bool, true, false, List, [], ◌∷◌, Option, None, Some}
-use Rattle.std.specs.Prelude.{codes, option_map}
+use Rattle.std.specs.Prelude.{option_map}
 use Rattle.bgp_machine.specs.Run.{End}
 use Rattle.bgp_machine.specs.declared.fsm.Fsm.{Fsm}
 use Rattle.bgp_machine.specs.declared.fsm.Fsm.TheVariants as fsms
@@ -11,6 +11,7 @@ use Rattle.bgp_prefix.specs.declared.address.Address.{Address}
 use Rattle.bgp_prefix.specs.declared.session.Session.{Session}
 use Rattle.mrt_sessions.specs.File.{Located}
 use Rattle.bgp_why.specs.declared.endpoint.Endpoint.{Endpoint}
+use Rattle.bgp_check_lines.specs.Values.{open_line}
 use Rattle.bgp_ended.specs.EndedLine.{ended_stretch_line}
 use Rattle.bgp_ended.specs.Stretch.{EndedStretchValue, IsEndOf, ended_stretch_value}
 use Rattle.bgp_list.specs.Sessions.{first_second}
@@ -71,12 +72,12 @@ is_over [] = false
 is_over (e ∷ others) = is_idle e.fsm
 
 -- nothing is told of one that is over and whose records show no end
-abbrev pub open_line : Bool → List ℕ
-open_line true = []
-open_line false = codes "  open at the end of the file\n"
+abbrev pub open_text : Bool → List ℕ
+open_text true = []
+open_text false = open_line
 
 -- the line: it ended, or it is open
 abbrev pub told_end_line : Bool → Option ToldEndValue → List ℕ
-told_end_line over None = open_line over
+told_end_line over None = open_text over
 told_end_line over (Some told) =
     ended_stretch_line told.first told.number told.micro told.by told.ended

@@ -10,7 +10,7 @@ ghost use Rattle.mrt_sessions.specs.File.{Located};
 ghost use Rattle.mrt_sessions.specs.Located.{located};
 ghost use Rattle.mrt_sessions.specs.Sessions.{HoldsSessions, held_records, records_between};
 ghost use Rattle.mrt_sessions.specs.Sessions.{sessions_in};
-ghost use Rattle.bgp_text.specs.Lines.{Writes};
+ghost use Rattle.bgp_check_lines.specs.Lines.{PutsLines};
 ghost use Rattle.bgp_check_text.specs.Tally.{no_tally};
 ghost use Rattle.bgp_check_capture_tool.specs.Checking.{ChecksCapture, PutsBlocks, PutsFile};
 ghost use Rattle.bgp_check_capture_tool.specs.Checking.{nothing_by, nothing_text};
@@ -24,11 +24,10 @@ use crate::nothing::NothingJudged;
 use crate::options::CaptureOptions;
 use crate::telling::Telling;
 use arrayvec::ArrayVec;
+use bgp_check_lines::{CheckLines, put_fault, put_last, put_no_record};
 use bgp_check_text::Tally;
 use bgp_judge::Tracker;
-use bgp_list::put_fault;
-use bgp_text::Lines;
-use bgp_tool::{CaptureCommand, Note, hand_over, without_records};
+use bgp_tool::{CaptureCommand, Note, without_records};
 use mrt::{CaptureFault, Sink, Source};
 use mrt_sessions::{Addresses, Ending, NamedRecord, Sessions, hold, records_in};
 use std::alloc::Allocator;
@@ -67,8 +66,8 @@ impl CheckedCapture {
 
 /// Puts why not all records of a session are read, if they aren't, and before it the session's own
 /// line, if that isn't put yet.
-fn put_end_of<W: Sink>(
-    lines: &mut Lines<'_, W>,
+fn put_end_of<A: Allocator + Copy, W: Sink>(
+    lines: &mut CheckLines<'_, A, W>,
     addresses: Addresses,
     named: &[NamedRecord<'_>],
     is_headed: bool,
@@ -78,7 +77,7 @@ fn put_end_of<W: Sink>(
         (is_headed || is_some fault) (fault_text fault) }
 {
     match fault {
-        None => lines.put(b""),
+        None => {}
         Some(fault) => {
             put_heading(lines, addresses, named, is_headed);
             put_fault(lines, Some(fault));
@@ -92,7 +91,7 @@ fn put_one<A: Allocator + Copy, T: Tracker<A>, W: Sink>(
     addresses: Addresses,
     named: &[NamedRecord<'_>],
     telling: Telling,
-    lines: &mut Lines<'_, W>,
+    lines: &mut CheckLines<'_, A, W>,
     counted: &mut Counted,
 )
     requires mine { records_between addresses (map located named.now) ≡ map located named.now }
@@ -116,7 +115,7 @@ fn put_held<A: Allocator + Copy, T: Tracker<A>, W: Sink>(
     sessions: &Sessions<'_, A>,
     addresses: Addresses,
     telling: Telling,
-    lines: &mut Lines<'_, W>,
+    lines: &mut CheckLines<'_, A, W>,
     counted: &mut Counted,
 )
     requires mine { records_between addresses (held_records sessions.now addresses)
@@ -139,7 +138,7 @@ fn put_sessions<A: Allocator + Copy, T: Tracker<A>, W: Sink>(
     alloc: A,
     sessions: &Sessions<'_, A>,
     telling: Telling,
-    lines: &mut Lines<'_, W>,
+    lines: &mut CheckLines<'_, A, W>,
 ) -> Counted
     requires { (named : List Located) × HoldsSessions named sessions.now }
     ensures puts { (named : List Located) → HoldsSessions named sessions.now
@@ -186,18 +185,16 @@ fn put_file<A: Allocator + Copy, T: Tracker<A>, W: Sink>(
     octets: &[u8],
     ending: Ending,
     options: &CaptureOptions,
-    lines: &mut Lines<'_, W>,
+    lines: &mut CheckLines<'_, A, W>,
 ) -> PutFile
     ensures puts { PutsFile options.now octets.now ending lines.old lines.new
         result.counted.tally result.counted.refusals.items result.sessions result.fault }
     ensures apart { AreApart result.counted.refusals.items }
 {
     let Ok(file) = records_in(alloc, octets) else {
-        lines.put(b"");
         return PutFile::without_memory();
     };
     let Ok(sessions) = Sessions::of(alloc, file.records.as_slice()) else {
-        lines.put(b"");
         return PutFile::without_memory();
     };
     let fault = file.fault(ending);
@@ -211,13 +208,11 @@ fn put_file<A: Allocator + Copy, T: Tracker<A>, W: Sink>(
 }
 
 /// Puts that there is no session, where nothing was told.
-fn put_nothing<W: Sink>(lines: &mut Lines<'_, W>, tally: Tally)
-    ensures { Writes lines.old lines.new (nothing_text tally) }
+fn put_nothing<A: Allocator + Copy, W: Sink>(lines: &mut CheckLines<'_, A, W>, tally: Tally)
+    ensures { PutsLines lines.old lines.new (nothing_text tally) }
 {
     if tally.is_empty() {
-        lines.put(b"not judged: no record of a session\n");
-    } else {
-        lines.put(b"");
+        put_no_record(lines);
     }
 }
 
@@ -247,7 +242,7 @@ pub(crate) fn check_capture<A: Allocator + Copy, T: Tracker<A>, R: Source, W: Si
         result.sessions result.fault result.nothing }
 {
     let held = hold(alloc, source);
-    let mut lines = Lines::new(sink);
+    let mut lines = CheckLines::new(options.form, alloc, sink);
     let PutFile {
         mut counted,
         sessions,
@@ -263,8 +258,8 @@ pub(crate) fn check_capture<A: Allocator + Copy, T: Tracker<A>, R: Source, W: Si
     counted.add_fault(fault);
     let Counted { tally, refusals } = counted;
     put_nothing(&mut lines, tally);
-    tally.put_last(&mut lines, options.printing.quiet);
-    let status = hand_over(&mut lines, tally.status());
+    put_last(&mut lines, &tally, options.printing.quiet);
+    let status = lines.finish(tally.status());
     // No effect: it ends the loan of the sink.
     lines.into_sink();
     CheckedCapture {

@@ -4,7 +4,7 @@ ghost use Rattle.std.specs.Prelude.{◌≡◌, ℕ, List, [], true, if◌then◌
 ghost use Rattle.mrt.specs.Reader.{shown_of};
 ghost use Rattle.mrt_sessions.specs.Located.{located};
 ghost use Rattle.mrt_sessions.specs.Sessions.{records_between};
-ghost use Rattle.bgp_text.specs.Lines.{Writes};
+ghost use Rattle.bgp_check_lines.specs.Lines.{PutsLines};
 ghost use Rattle.bgp_check_capture_tool.specs.Counted.{with_ends, with_one};
 ghost use Rattle.bgp_check_text.specs.Tally.{with_unjudged};
 ghost use Rattle.bgp_list.specs.Sessions.{session_line};
@@ -20,11 +20,10 @@ use crate::lines::{put_silent, put_staying, put_stretch};
 use crate::stretch_end::{StretchEnd, View, end_of};
 use crate::telling::Telling;
 use bgp_check::{before_leaving, extended_messages, sends_some};
+use bgp_check_lines::{CheckLines, put_session};
 use bgp_check_text::{Printing, Tally, is_left_out};
 use bgp_judge::Tracker;
-use bgp_list::put_session;
 use bgp_prefix::{RouteRefresh, Session};
-use bgp_text::Lines;
 use mrt::{CaptureFault, FaultKind, Record, Sink};
 use mrt_sessions::{Addresses, NamedRecord, read_session};
 use std::alloc::Allocator;
@@ -92,8 +91,8 @@ impl Put {
 
 /// Puts what is told of all records of a session in which no message is sent, if there are some,
 /// and counts it.
-fn put_all_silent<W: Sink>(
-    lines: &mut Lines<'_, W>,
+fn put_all_silent<A: Allocator + Copy, W: Sink>(
+    lines: &mut CheckLines<'_, A, W>,
     view: &View<'_>,
     records: &[Record<'_>],
     so_far: Put,
@@ -106,21 +105,19 @@ fn put_all_silent<W: Sink>(
         ≡ with_ends so_far.tally (silent_ends (map shown_of records.now)) }
 {
     if records.is_empty() {
-        lines.put(b"");
         return so_far;
     }
     if view.telling.printing.quiet {
-        lines.put(b"");
-    } else {
-        put_silent(lines, view.session.local, records.len());
+        return so_far.with_unjudged();
     }
+    put_silent(lines, view.session.local, records.len());
     so_far.with_unjudged()
 }
 
 /// Puts what is told of the records before the first that leaves Idle, if there are some, and
 /// counts it.
-fn put_front<W: Sink>(
-    lines: &mut Lines<'_, W>,
+fn put_front<A: Allocator + Copy, W: Sink>(
+    lines: &mut CheckLines<'_, A, W>,
     view: &View<'_>,
     records: &[Record<'_>],
     so_far: Put,
@@ -133,39 +130,36 @@ fn put_front<W: Sink>(
         ≡ with_ends so_far.tally (front_ends (map shown_of records.now)) }
 {
     if records.is_empty() {
-        lines.put(b"");
         return so_far;
     }
     if view.telling.printing.quiet {
-        lines.put(b"");
-    } else {
-        put_staying(lines, view.session.local, records.len());
+        return so_far.with_unjudged();
     }
+    put_staying(lines, view.session.local, records.len());
     so_far.with_unjudged()
 }
 
 /// Puts the own line of the session between these addresses, which has these records in the file,
 /// if it isn't put yet.
-pub(crate) fn put_heading<W: Sink>(
-    lines: &mut Lines<'_, W>,
+pub(crate) fn put_heading<A: Allocator + Copy, W: Sink>(
+    lines: &mut CheckLines<'_, A, W>,
     addresses: Addresses,
     named: &[NamedRecord<'_>],
     is_headed: bool,
 )
-    ensures { Writes lines.old lines.new
+    ensures { PutsLines lines.old lines.new
         (if is_headed then [] else session_line addresses (map located named.now)) }
 {
     if is_headed {
-        lines.put(b"");
-    } else {
-        put_session(lines, addresses, named);
+        return;
     }
+    put_session(lines, addresses, named);
 }
 
 /// Puts what is told of a stretch, unless it is left out, and before it the session's own line, if
 /// that isn't put yet. Answers whether that is.
-fn put_kept<W: Sink, A: Allocator>(
-    lines: &mut Lines<'_, W>,
+fn put_kept<A: Allocator + Copy, W: Sink>(
+    lines: &mut CheckLines<'_, A, W>,
     view: &View<'_>,
     end: &StretchEnd<'_, A>,
     is_headed: bool,
@@ -176,7 +170,6 @@ fn put_kept<W: Sink, A: Allocator>(
 {
     let Printing { routes, quiet } = view.telling.printing;
     if is_left_out(quiet, &end.told.answer) {
-        lines.put(b"");
         is_headed
     } else {
         put_heading(lines, addresses_of(&view.session), view.named, is_headed);
@@ -186,8 +179,8 @@ fn put_kept<W: Sink, A: Allocator>(
 }
 
 /// Puts what is told of a stretch, unless it is left out, and counts it.
-fn put_told<W: Sink, A: Allocator>(
-    lines: &mut Lines<'_, W>,
+fn put_told<A: Allocator + Copy, W: Sink>(
+    lines: &mut CheckLines<'_, A, W>,
     view: &View<'_>,
     end: StretchEnd<'_, A>,
     so_far: Put,
@@ -209,7 +202,7 @@ fn put_stretches<A: Allocator + Copy, T: Tracker<A>, W: Sink>(
     alloc: A,
     view: &View<'_>,
     records: &[Record<'_>],
-    lines: &mut Lines<'_, W>,
+    lines: &mut CheckLines<'_, A, W>,
     tally: Tally,
 ) -> (Put, bool)
     ensures { Puts (heading_of (view_value view.now)) view.now.telling.printing
@@ -237,7 +230,7 @@ fn put_records<A: Allocator + Copy, T: Tracker<A>, W: Sink>(
     alloc: A,
     view: &View<'_>,
     records: &[Record<'_>],
-    lines: &mut Lines<'_, W>,
+    lines: &mut CheckLines<'_, A, W>,
     tally: Tally,
 ) -> (Put, bool)
     ensures { Puts (heading_of (view_value view.now)) view.now.telling.printing
@@ -260,7 +253,7 @@ pub(crate) fn put_ends<A: Allocator + Copy, T: Tracker<A>, W: Sink>(
     addresses: Addresses,
     named: &[NamedRecord<'_>],
     telling: Telling,
-    lines: &mut Lines<'_, W>,
+    lines: &mut CheckLines<'_, A, W>,
     tally: Tally,
 ) -> (Put, Option<CaptureFault>)
     requires mine { records_between addresses (map located named.now) ≡ map located named.now }
@@ -270,7 +263,6 @@ pub(crate) fn put_ends<A: Allocator + Copy, T: Tracker<A>, W: Sink>(
 {
     let extended = extended_messages(named);
     let Ok(read) = read_session(alloc, addresses, extended, named) else {
-        lines.put(b"");
         let put = Put {
             tally,
             is_headed: !telling.printing.quiet,

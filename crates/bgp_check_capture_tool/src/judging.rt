@@ -6,14 +6,14 @@ ghost use Rattle.mrt_sessions.specs.Located.{located};
 ghost use Rattle.bgp_check.specs.Answered.{answer_value};
 ghost use Rattle.bgp_check.specs.StretchTold.{told_value};
 ghost use Rattle.bgp_check_text.specs.Settings.{are_told};
-ghost use Rattle.bgp_text.specs.Lines.{Writes};
+ghost use Rattle.bgp_check_lines.specs.Lines.{PutsLines};
 ghost use Rattle.bgp_check_capture_tool.specs.Judging.{AreOptionsFor, AreOptionsOf, AreOptionsTo};
 ghost use Rattle.bgp_check_capture_tool.specs.Judging.{judge_text, passes_over};
 
 use crate::stretch_end::View;
 use bgp_check::{Answer, Judged, StretchTold};
-use bgp_check_text::{JudgeOptions, capture_options, put_judge_line, told_configuration};
-use bgp_text::Lines;
+use bgp_check_lines::{CheckLines, put_repeat};
+use bgp_check_text::{JudgeOptions, capture_options, told_configuration};
 use mrt::{Record, Sink};
 use std::alloc::Allocator;
 
@@ -77,11 +77,14 @@ pub(crate) fn options_of<A: Allocator>(
 }
 
 /// Puts the line with the options of `bgp judge`, where they are told.
-pub(crate) fn put_judge<W: Sink>(lines: &mut Lines<'_, W>, judge: Option<JudgeOptions>)
-    ensures { Writes lines.old lines.new (judge_text judge) }
+pub(crate) fn put_judge<A: Allocator + Copy, W: Sink>(
+    lines: &mut CheckLines<'_, A, W>,
+    judge: Option<JudgeOptions>,
+)
+    ensures { PutsLines lines.old lines.new (judge_text judge) }
 {
     match judge {
-        Some(options) => put_judge_line(lines, &options),
-        None => lines.put(b""),
+        Some(options) => put_repeat(lines, &options),
+        None => {}
     }
 }

@@ -3,7 +3,7 @@
 ghost use Rattle.std.specs.Prelude.{◌≡◌, codes};
 ghost use Rattle.bgp_judge.specs.Verdict.{verdict_value};
 ghost use Rattle.bgp_prefix.specs.declared.address.Address.{Address as TheAddress};
-ghost use Rattle.bgp_text.specs.Lines.{Writes};
+ghost use Rattle.bgp_check_lines.specs.Lines.{PutsLines};
 ghost use Rattle.bgp_check.specs.declared.not_judged.NotJudged.TheVariants.{NothingSent};
 ghost use Rattle.bgp_check_text.specs.Text.{why_text};
 ghost use Rattle.bgp_check_capture_tool.specs.Ends.{Stretch};
@@ -16,38 +16,40 @@ use crate::judging::put_judge;
 use crate::naming::endpoint_of;
 use crate::stretch_end::StretchEnd;
 use crate::told_end::{is_over, put_told_end};
-use bgp_check::{Answer, Judged, NotJudged};
-use bgp_check_text::{
-    Reason, put_no, put_not_judged, put_part_end, put_passed_over, put_reason, put_unfinished,
-    put_why, put_yes,
+use bgp_check::{Answer, Judged};
+use bgp_check_lines::{
+    CheckLines, put_no, put_not_judged, put_passed_over, put_reason, put_unfinished, put_unnamed,
+    put_yes,
 };
+use bgp_check_text::Reason;
 use bgp_judge::Verdict;
 use bgp_prefix::Address;
-use bgp_text::Lines;
 use mrt::Sink;
 use std::alloc::Allocator;
 
 /// The line of a session of so many records, in which no message is sent.
-pub(crate) fn put_silent<W: Sink>(lines: &mut Lines<'_, W>, local: Address, count: usize)
-    ensures { Writes lines.old lines.new (unjudged_line local count (why_text NothingSent)) }
+pub(crate) fn put_silent<A: Allocator + Copy, W: Sink>(
+    lines: &mut CheckLines<'_, A, W>,
+    local: Address,
+    count: usize,
+)
+    ensures { PutsLines lines.old lines.new (unjudged_line local count (why_text NothingSent)) }
 {
-    lines.put(b"not judged: ");
-    put_part_end(lines, &endpoint_of(local), (1, count as u64));
-    lines.put(b": ");
-    put_why(lines, NotJudged::NothingSent);
-    lines.put(b"\n");
+    let why = "the file has no message that it sent";
+    put_unnamed(lines, &endpoint_of(local), Some((1, count as u64)), why);
 }
 
 /// The line of so many records before the first that leaves Idle.
-pub(crate) fn put_staying<W: Sink>(lines: &mut Lines<'_, W>, local: Address, count: usize)
-    ensures { Writes lines.old lines.new (unjudged_line local count
+pub(crate) fn put_staying<A: Allocator + Copy, W: Sink>(
+    lines: &mut CheckLines<'_, A, W>,
+    local: Address,
+    count: usize,
+)
+    ensures { PutsLines lines.old lines.new (unjudged_line local count
         (codes "these records do not begin with a change from Idle")) }
 {
-    lines.put(b"not judged: ");
-    put_part_end(lines, &endpoint_of(local), (1, count as u64));
-    lines.put(b": ");
-    lines.put(b"these records do not begin with a change from Idle");
-    lines.put(b"\n");
+    let why = "these records do not begin with a change from Idle";
+    put_unnamed(lines, &endpoint_of(local), Some((1, count as u64)), why);
 }
 
 /// What the record shows was done at which a no stands.
@@ -61,31 +63,37 @@ fn deed_in<A: Allocator>(reason: &Option<Reason<A>>) -> &[u8]
 }
 
 /// Why a verdict is a no or unfinished, where it is.
-fn put_lines_in<W: Sink, A: Allocator>(lines: &mut Lines<'_, W>, reason: &Option<Reason<A>>)
-    ensures { Writes lines.old lines.new (lines_in reason.now) }
+fn put_lines_in<A: Allocator + Copy, W: Sink>(
+    lines: &mut CheckLines<'_, A, W>,
+    reason: &Option<Reason<A>>,
+)
+    ensures { PutsLines lines.old lines.new (lines_in reason.now) }
 {
     match reason {
         Some(reason) => put_reason(lines, reason),
-        None => lines.put(b""),
+        None => {}
     }
 }
 
 /// The notes behind a verdict and its reason.
-fn put_notes<W: Sink, A: Allocator>(lines: &mut Lines<'_, W>, end: &StretchEnd<'_, A>)
-    ensures { Writes lines.old lines.new (notes_text (stretch_value end.now)) }
+fn put_notes<A: Allocator + Copy, W: Sink>(
+    lines: &mut CheckLines<'_, A, W>,
+    end: &StretchEnd<'_, A>,
+)
+    ensures { PutsLines lines.old lines.new (notes_text (stretch_value end.now)) }
 {
     put_passed_over(lines, end.told.received, end.told.sent);
     put_judge(lines, end.judge);
 }
 
 /// The lines of a stretch's verdict.
-fn put_verdict<W: Sink, A: Allocator>(
-    lines: &mut Lines<'_, W>,
+fn put_verdict<A: Allocator + Copy, W: Sink>(
+    lines: &mut CheckLines<'_, A, W>,
     end: &StretchEnd<'_, A>,
     judged: &Judged<A>,
     routes: bool,
 )
-    ensures { Writes lines.old lines.new (verdict_text routes (stretch_value end.now)
+    ensures { PutsLines lines.old lines.new (verdict_text routes (stretch_value end.now)
         judged.now.peer_as (verdict_value judged.now.verdict)) }
 {
     let (name, reached) = (&end.name, &end.reached);
@@ -111,12 +119,12 @@ fn put_verdict<W: Sink, A: Allocator>(
 }
 
 /// The lines of a stretch.
-pub(crate) fn put_stretch<W: Sink, A: Allocator>(
-    lines: &mut Lines<'_, W>,
+pub(crate) fn put_stretch<A: Allocator + Copy, W: Sink>(
+    lines: &mut CheckLines<'_, A, W>,
     end: &StretchEnd<'_, A>,
     routes: bool,
 )
-    ensures { (local : TheAddress) → Writes lines.old lines.new
+    ensures { (local : TheAddress) → PutsLines lines.old lines.new
         (end_text routes local (Stretch (stretch_value end.now))) }
 {
     match &end.told.answer {

@@ -1,6 +1,7 @@
 //! How a capture is checked.
 
 use bgp_check_text::{Printing, Settings};
+use bgp_verdict_lines::VerdictForm;
 
 /// How a capture is checked.
 #[derive(Clone, Copy, Debug)]
@@ -10,4 +11,6 @@ pub struct CaptureOptions {
     /// After which verdicts the options of `bgp judge` are told, where neither the file nor the
     /// session is refused.
     pub settings: Settings,
+    /// In which form all is told.
+    pub form: VerdictForm,
 }

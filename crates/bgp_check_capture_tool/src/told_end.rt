@@ -4,18 +4,18 @@ ghost use Rattle.std.specs.Prelude.{◌≡◌, ◌+◌, ◌<◌, length, map, op
 ghost use Rattle.bgp_judge.specs.Ends.{end_value};
 ghost use Rattle.mrt.specs.Reader.{shown_of};
 ghost use Rattle.mrt_sessions.specs.Located.{located};
-ghost use Rattle.bgp_text.specs.Lines.{Writes};
+ghost use Rattle.bgp_check_lines.specs.Lines.{PutsLines};
 ghost use Rattle.bgp_check_capture_tool.specs.ToldEnd.{IsEndTold, address_of, is_over};
-ghost use Rattle.bgp_check_capture_tool.specs.ToldEnd.{open_line, told_end_line, told_end_value};
+ghost use Rattle.bgp_check_capture_tool.specs.ToldEnd.{open_text, told_end_line, told_end_value};
 
 use crate::naming::endpoint_of;
 use crate::places::micro_after;
-use bgp_ended::{EndedStretch, ended_in, put_ended_stretch};
+use bgp_check_lines::{CheckLines, put_ended, put_open};
+use bgp_ended::{EndedStretch, ended_in};
 use bgp_judge::End;
 use bgp_list::first_second;
 use bgp_machine::Fsm;
 use bgp_prefix::{Address, Seconds, Session};
-use bgp_text::Lines;
 use bgp_why::Endpoint;
 use mrt::{Record, Sink};
 use mrt_sessions::NamedRecord;
@@ -81,27 +81,26 @@ pub(crate) fn is_over<A: Allocator>(endings: &[End<A>]) -> bool
 }
 
 /// Puts the line of a session that is open, and nothing of one that is over.
-fn put_open<W: Sink>(lines: &mut Lines<'_, W>, is_over: bool)
-    ensures { Writes lines.old lines.new (open_line is_over) }
+fn put_if_open<A: Allocator + Copy, W: Sink>(lines: &mut CheckLines<'_, A, W>, is_over: bool)
+    ensures { PutsLines lines.old lines.new (open_text is_over) }
 {
     if is_over {
-        lines.put(b"");
-    } else {
-        lines.put(b"  open at the end of the file\n");
+        return;
     }
+    put_open(lines);
 }
 
 /// Puts the line of a stretch's end; or that it is open, unless the session is over.
-pub(crate) fn put_told_end<W: Sink>(
-    lines: &mut Lines<'_, W>,
+pub(crate) fn put_told_end<A: Allocator + Copy, W: Sink>(
+    lines: &mut CheckLines<'_, A, W>,
     told: Option<ToldEnd<'_>>,
     is_over: bool,
 )
-    ensures { Writes lines.old lines.new
+    ensures { PutsLines lines.old lines.new
         (told_end_line is_over (option_map told_end_value told.entry)) }
 {
     match told {
-        Some(told) => put_ended_stretch(
+        Some(told) => put_ended(
             lines,
             told.first,
             told.number,
@@ -109,6 +108,6 @@ pub(crate) fn put_told_end<W: Sink>(
             &told.by,
             &told.ended,
         ),
-        None => put_open(lines, is_over),
+        None => put_if_open(lines, is_over),
     }
 }

@@ -3,3 +3,4 @@ pub mod Tellers
 pub mod Puts
 pub mod Printed
 mod Texts
+pub mod SameSink

@@ -132,11 +132,16 @@ check_options checking = record {
   within = checking.within;
   printing = record { routes = checking.routes; quiet = checking.quiet };
   settings = settings_with checking.settings;
+  form = form_with checking.json;
 }
 
 -- of a capture: its messages have no port, and were handled when their records were written
 abbrev pub capture_options : CheckOptions → CaptureOptions
-capture_options options = record { printing = options.printing; settings = options.settings }
+capture_options options = record {
+  printing = options.printing;
+  settings = options.settings;
+  form = options.form;
+}
 
 -- an MRT file is written to standard output or to the file of this name
 abbrev pub IsDestination : Bor (List ℕ) → Destination → Type 0

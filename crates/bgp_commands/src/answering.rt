@@ -249,8 +249,8 @@ fn report_with(explain: bool) -> Report
     }
 }
 
-/// Returns the form in which a verdict is told.
-fn form_with(json: bool) -> VerdictForm
+/// Returns the form in which verdicts are told.
+pub(crate) fn form_with(json: bool) -> VerdictForm
     ensures { result ≡ form_with json }
 {
     if json {

@@ -6,6 +6,7 @@ ghost use Rattle.bgp_commands.specs.Answers.{ChecksFile, ChecksPackets, ChecksRe
 ghost use Rattle.bgp_commands.specs.Answers as specs;
 
 use crate::answer::Answer;
+use crate::answering::form_with;
 use crate::ends::Ends;
 use bgp_check_capture_tool::{CaptureOptions, CheckedCapture, check_capture};
 use bgp_check_text::Printing;
@@ -41,6 +42,7 @@ pub(crate) fn check_options(checking: &Checking) -> CheckOptions
             quiet: checking.quiet,
         },
         settings: settings_with(checking.settings),
+        form: form_with(checking.json),
     }
 }
 
@@ -51,9 +53,14 @@ fn capture_options(options: &CheckOptions) -> CaptureOptions
     let CheckOptions {
         printing,
         settings,
+        form,
         ..
     } = *options;
-    CaptureOptions { printing, settings }
+    CaptureOptions {
+        printing,
+        settings,
+        form,
+    }
 }
 
 /// Checks both ends of each connection in a pcap file, or the local system of each session in an

@@ -37,7 +37,7 @@ number_fits kinds.AddPath = omega arith
 number_fits kinds.Device = omega arith
 number_fits kinds.Memory = omega arith
 
-refusal_printed : (fault : CaptureFault) → fault.offset < 2 ^ 64 → IsPrinted (capture_json fault)
+pub refusal_printed : (fault : CaptureFault) → fault.offset < 2 ^ 64 → IsPrinted (capture_json fault)
 refusal_printed fault small = record {
   decimals = (tt, (tt, (of_number (fault_number fault.kind) (number_fits fault.kind), (tt, (of_number fault.offset small, tt)))));
   shallow = capture_shallow fault;

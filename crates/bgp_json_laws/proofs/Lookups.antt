@@ -21,7 +21,7 @@ truth_of (string s) = false
 truth_of (array js) = false
 truth_of (object ms) = false
 
-abbrev items_of : Json → Items
+abbrev pub items_of : Json → Items
 items_of null = no_items
 items_of (boolean b) = no_items
 items_of (number s) = no_items
@@ -29,7 +29,7 @@ items_of (string s) = no_items
 items_of (array js) = js
 items_of (object ms) = no_items
 
-abbrev members_of : Json → Members
+abbrev pub members_of : Json → Members
 members_of null = no_members
 members_of (boolean b) = no_members
 members_of (number s) = no_members
@@ -47,11 +47,11 @@ abbrev pub paired : Members → List (List ℕ × Json)
 paired no_members = []
 paired (member k j ms) = (k, j) ∷ paired ms
 
-listed_back : (js : List Json) → listed (in_array js) ≡ js
+pub listed_back : (js : List Json) → listed (in_array js) ≡ js
 listed_back [] = refl
 listed_back (j ∷ js) = ap (λ (l : List Json). j ∷ l) (listed_back js)
 
-paired_back : (ms : List (List ℕ × Json)) → paired (in_object ms) ≡ ms
+pub paired_back : (ms : List (List ℕ × Json)) → paired (in_object ms) ≡ ms
 paired_back [] = refl
 paired_back (m ∷ ms) = ap (λ (l : List (List ℕ × Json)). m ∷ l) (paired_back ms)
 

@@ -22,7 +22,7 @@ is_number : (s : List ℕ) → IsDecimal s → HasNumbers (number s)
 is_number s is = rw is.2 (IsNumber-decimal is.0 is.1)
 
 mutual
-  has_numbers : (j : Json) → HasDecimals j → HasNumbers j
+  pub has_numbers : (j : Json) → HasDecimals j → HasNumbers j
   has_numbers null is = tt
   has_numbers (boolean b) is = tt
   has_numbers (number s) is = is_number s is

@@ -161,7 +161,7 @@ comma : (b : Bool) → AreVisible (cond b (44 ∷ []) [])
 comma true = (omega arith, tt)
 comma false = tt
 
-of_tokens : (after_value : Bool) (ts : List Token) → ArePrintable ts → AreVisible (print_from after_value ts)
+pub of_tokens : (after_value : Bool) (ts : List Token) → ArePrintable ts → AreVisible (print_from after_value ts)
 unfolding print_from ArePrintable
 of_tokens after_value [] is = tt
 of_tokens after_value (t ∷ ts) is =

@@ -33,7 +33,7 @@ use Rattle.bgp_way_ends.proofs.Phases.{Before, Down, IsUp, Phase, Stays, hidden_
 
 -- ---- silence
 
-of_each : (P : Head → Type 0) (hs : List Head) (h : Head) → Each P hs → Has (λ x. x ≡ h) hs → P h
+pub of_each : (P : Head → Type 0) (hs : List Head) (h : Head) → Each P hs → Has (λ x. x ≡ h) hs → P h
 of_each P [] h each has = absurd has
 of_each P (x ∷ hs) h each has = elim has [ inl e ↦ subst P e each.0 | inr k ↦ of_each P hs h each.1 k ]
 
@@ -44,7 +44,7 @@ silent_with config s e routes silent =
     of_each (λ h. Silent config (record s { routes = routes }) (record { head = h; routes = routes })) (silent_heads config s.head) e.head
     (lists_silent config s.head routes).each q.1
 
-silent_phase : (config : Config) (s e : SessionState) → Silent config s e → phase_of e.head ≡ phase_of s.head
+pub silent_phase : (config : Config) (s e : SessionState) → Silent config s e → phase_of e.head ≡ phase_of s.head
 silent_phase config s e silent = quiet_phase config s.head e.head (quiet config silent.steps s e silent.are_steps silent.shows).1
 
 silent_routes : (config : Config) (s e : SessionState) → Silent config s e → e.routes ≡ s.routes
@@ -52,7 +52,7 @@ silent_routes config s e silent = (quiet config silent.steps s e silent.are_step
 
 -- ---- heads by their phases
 
-down_head : (h : Head) → phase_of h ≡ Down → h ≡ Idle
+pub down_head : (h : Head) → phase_of h ≡ Down → h ≡ Idle
 down_head Idle e = refl
 down_head (Connect delay) e = absurd (let k : ⊥ = cc in k)
 down_head (Active delay) e = absurd (let k : ⊥ = cc in k)
@@ -60,7 +60,7 @@ down_head (OpenSent timer) e = absurd (let k : ⊥ = cc in k)
 down_head (OpenConfirm link timer) e = absurd (let k : ⊥ = cc in k)
 down_head (Established link timer) e = absurd (let k : ⊥ = cc in k)
 
-idle_head : (h : Head) → fsm_of h ≡ fsms.Idle → h ≡ Idle
+pub idle_head : (h : Head) → fsm_of h ≡ fsms.Idle → h ≡ Idle
 idle_head Idle e = refl
 idle_head (Connect delay) e = absurd (let k : ⊥ = cc in k)
 idle_head (Active delay) e = absurd (let k : ⊥ = cc in k)
@@ -69,7 +69,7 @@ idle_head (OpenConfirm link timer) e = absurd (let k : ⊥ = cc in k)
 idle_head (Established link timer) e = absurd (let k : ⊥ = cc in k)
 
 -- a head in the phase of one that isn't Idle isn't
-up_by_phase : (h g : Head) → phase_of h ≡ phase_of g → IsUp g → IsUp h
+pub up_by_phase : (h g : Head) → phase_of h ≡ phase_of g → IsUp g → IsUp h
 up_by_phase h g same up idle =
     let down : phase_of g ≡ Down = sym same ∙ ap phase_of (idle_head h idle) in
     up (ap fsm_of (down_head g down))
@@ -231,7 +231,7 @@ idle_change config t Listens wants turn r = (r.0, (fsms.Active, ap (λ (u : Turn
 idle_change config t Notes wants turn r = (r.0, (fsm_of turn.head, refl))
 idle_change config t row wants turn r = absurd r
 
-idle_own : (config : Config) (shown : ShownRecord) (row : HiddenRow) (wants : List Want) (change : Option (Fsm × Fsm)) (turn : Turn) (left : List Want) (still : Option (Fsm × Fsm))
+pub idle_own : (config : Config) (shown : ShownRecord) (row : HiddenRow) (wants : List Want) (change : Option (Fsm × Fsm)) (turn : Turn) (left : List Want) (still : Option (Fsm × Fsm))
     → IsOwn shown → LeavesNoIdle shown → HiddenIn Idle config (second_of shown) row wants turn → change ≡ hidden_change row fsms.Idle (fsm_of turn.head)
     → Pays config None shown wants change left still → ⊥
 idle_own config (Received t octets) row wants change turn left still own fine r is pays = own
@@ -250,7 +250,7 @@ idle_opens config (Received t octets) m2 turn fine o = idle_received t octets o.
 idle_opens config (Sent t octets) m2 turn fine o = absurd (idle_own config (Sent t octets) o.0 o.1 o.2 turn m2.wants m2.change tt fine o.3.0 o.3.1 o.4)
 idle_opens config (Changed t old new) m2 turn fine o = absurd (idle_own config (Changed t old new) o.0 o.1 o.2 turn m2.wants m2.change tt fine o.3.0 o.3.1 o.4)
 
-idle_next : (config : Config) (shown : ShownRecord) (m m2 : Member) → LeavesNoIdle shown → fsm_of m.state.head ≡ fsms.Idle → Next config shown m m2
+pub idle_next : (config : Config) (shown : ShownRecord) (m m2 : Member) → LeavesNoIdle shown → fsm_of m.state.head ≡ fsms.Idle → Next config shown m m2
     → fsm_of m2.state.head ≡ fsms.Idle
 idle_next config shown m m2 fine idle (inl c) = ap (λ (v : SessionState). fsm_of v.head) c.state ∙ idle
 idle_next config shown m m2 fine idle (inr s) =

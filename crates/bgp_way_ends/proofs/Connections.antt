@@ -63,7 +63,7 @@ listed_ends config records [] e each has = absurd has
 listed_ends config records (x ∷ ends) e each (inl same) = subst (IsComplete config records) same each.0
 listed_ends config records (x ∷ ends) e each (inr has) = listed_ends config records ends e each.1 has
 
-map_map : (entries : List Entry) → map (λ (n : Numbered). n.shown) (map numbered_of entries) ≡ records_of entries
+pub map_map : (entries : List Entry) → map (λ (n : Numbered). n.shown) (map numbered_of entries) ≡ records_of entries
 map_map [] = refl
 map_map (entry ∷ entries) = ap (λ (v : List ShownRecord). shown_of entry.record ∷ v) (map_map entries)
 

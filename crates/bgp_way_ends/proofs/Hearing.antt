@@ -143,7 +143,7 @@ no_update : (config : Config) (octets : List ℕ) (kind : ℕ) → (kind == 2) �
 no_update config octets kind isnt one other = differ kind 2 isnt (sym one.type_field ∙ other.type_field)
 
 -- whether it is a KEEPALIVE
-a_keepalive : (config : Config) (octets : List ℕ) (kind : ℕ) → Announces config kind octets → is_keepalive octets ≡ (kind == 4)
+pub a_keepalive : (config : Config) (octets : List ℕ) (kind : ℕ) → Announces config kind octets → is_keepalive octets ≡ (kind == 4)
 a_keepalive config octets kind one = ap (λ (n : ℕ). n == 4) one.type_field
 
 -- a message that is passed over in Established

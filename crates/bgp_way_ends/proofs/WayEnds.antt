@@ -36,14 +36,14 @@ use Rattle.bgp_way_ends.proofs.Phases.{Before, IsUp, Phase, Up, phase_of}
 
 -- ---- the records of a way leave Idle no more
 
-abbrev Fine : List ShownRecord → Type 0
+abbrev pub Fine : List ShownRecord → Type 0
 Fine records = AllByRecursion LeavesNoIdle records
 
 both_fine : (xs ys : List ShownRecord) → Fine xs → Fine ys → Fine (xs ++ ys)
 both_fine [] ys fx fy = fy
 both_fine (x ∷ xs) ys fx fy = (fx.0, both_fine xs ys fx.1 fy)
 
-idle_state : (state : State) → state_number state ≡ 1 → state ≡ states.Idle
+pub idle_state : (state : State) → state_number state ≡ 1 → state ≡ states.Idle
 idle_state states.Idle e = refl
 idle_state states.Connect e = absurd (let k : ⊥ = cc in k)
 idle_state states.Active e = absurd (let k : ⊥ = cc in k)
@@ -68,7 +68,7 @@ left_fine second states.OpenSent false = tt
 left_fine second states.OpenConfirm left = tt
 left_fine second states.Established left = tt
 
-fine_in : (state : State) (before : Standing) (events later : List Event) → Fine (records_in state before events later)
+pub fine_in : (state : State) (before : Standing) (events later : List Event) → Fine (records_in state before events later)
 fine_in state before [] later = tt
 fine_in state before (Passed second (Received m) ∷ front) later =
     let answered = is_answered_before_open m.kind (sent_in (items_in (front ++ later))) in
@@ -112,7 +112,7 @@ behind_change : (second : ℕ) (state : State) (led : Option State) (records : L
 behind_change second state led records =
     heard_both (changed_to second state led) records ∙ ap (λ (os : List (List ℕ)). os ++ heard_in records) (no_message second state led)
 
-heard_way : (state : State) (before : Standing) (events later : List Event) → heard_in (records_in state before events later) ≡ octets_of (received_in (items_in events))
+pub heard_way : (state : State) (before : Standing) (events later : List Event) → heard_in (records_in state before events later) ≡ octets_of (received_in (items_in events))
 heard_way state before [] later = refl
 heard_way state before (Passed second (Received m) ∷ front) later =
     let led = led_by_received state m.kind (is_answered_before_open m.kind (sent_in (items_in (front ++ later)))) in
@@ -134,7 +134,7 @@ heard_way state before (Passed second (Ended x) ∷ front) later =
 
 -- ---- ends
 
-is_established : (fsm : Fsm) → (fsm ≡ fsms.Established) ⊎ (fsm ≡ fsms.Established → ⊥)
+pub is_established : (fsm : Fsm) → (fsm ≡ fsms.Established) ⊎ (fsm ≡ fsms.Established → ⊥)
 is_established fsms.Idle = inr (λ e. cc)
 is_established fsms.Connect = inr (λ e. cc)
 is_established fsms.Active = inr (λ e. cc)
@@ -162,7 +162,7 @@ module _ (config : Config) where
   last_is h routes final is may = let k = up_phase h is in subst (λ (p : Phase). MayHave config p routes [] final) k.1 may
 
   -- a chain of records that begin with a change from Idle, to a state
-  record Chain (second new : ℕ) (records : List ShownRecord) (e : End) : Type 0 where
+  pub record Chain (second new : ℕ) (records : List ShownRecord) (e : End) : Type 0 where
     pub first : Member
     pub last : Member
     pub begins : Next config (shown.Changed second 1 new) fresh_member first
@@ -175,7 +175,7 @@ module _ (config : Config) where
     abbrev All : List ShownRecord
     All = shown.Changed second 1 new ∷ records
 
-    to_chain : IsComplete config All e → Chain second new records e
+    pub to_chain : IsComplete config All e → Chain second new records e
     to_chain complete =
         let k = (ends config All e).0 complete in record {
           first = k.1.0;
@@ -234,7 +234,7 @@ module _ (config : Config) where
 
   -- ---- two lists of records
 
-  fsm_told : EachRunIsAsTold → (records : List ShownRecord) (e : End) → IsComplete config records e → e.fsm ≡ (told records).fsm
+  pub fsm_told : EachRunIsAsTold → (records : List ShownRecord) (e : End) → IsComplete config records e → e.fsm ≡ (told records).fsm
   fsm_told each records e (s, run, is) = sym (ap (λ (v : End). v.fsm) is) ∙ (each config records s run).fsm
 
   no_routes_told : EachRunIsAsTold → (records : List ShownRecord) (e : End) → (e.fsm ≡ fsms.Established → ⊥) → IsComplete config records e → e.routes ≡ no_routes

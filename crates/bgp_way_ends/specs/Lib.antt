@@ -1,2 +1,4 @@
+pub mod EveryEnd
+pub mod OneState
 pub mod WayEnds
 pub mod Connections

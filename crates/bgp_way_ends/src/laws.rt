@@ -1,6 +1,8 @@
 //! Laws of the ends of whole ways, each on a function that does nothing.
 
 ghost use Rattle.bgp_way_ends.specs.Connections.{MadeOrderListsAllEnds, WayListsAllEnds};
+ghost use Rattle.bgp_way_ends.specs.EveryEnd.{MadeYesListsEveryEnd, WayYesListsEveryEnd};
+ghost use Rattle.bgp_way_ends.specs.OneState.{EachWholeWayTellsAllEnds, WholeWaysEndInOneState};
 ghost use Rattle.bgp_way_ends.specs.WayEnds.{EntriesTellAllEnds, OneWayForEachState};
 ghost use Rattle.bgp_way_ends.specs.WayEnds.{OneWayTellsAllEnds, WholeWaysEndAlike};
 
@@ -42,4 +44,32 @@ pub fn a_yes_lists_all_ends_in_its_states()
     a_member_is_reached();
     records_tell_the_state();
     runs_of_entries_are_whole();
+}
+
+/// States that all whole ways of an exchange end in one state, if a message that is a NOTIFICATION
+/// by its kind is one by its octets. So the ends of one of them are all in which the session can
+/// have ended. Where the connection has an end, nothing stays but Idle, or Active if no message
+/// was received behind the own OPEN; else a session falls only by a NOTIFICATION, or by a message
+/// before the own OPEN, and where it doesn't fall, what was received settles its state.
+pub fn whole_ways_end_in_one_state()
+    ensures state { WholeWaysEndInOneState }
+    ensures ends { EachWholeWayTellsAllEnds }
+{
+    a_member_is_reached();
+    records_tell_the_state();
+    whole_ways_end_alike();
+}
+
+/// States that a yes on a connection lists all ends, whatever order they are of: of those that
+/// [`a_yes_lists_all_ends_in_its_states`] names the premise of the states isn't needed. If any end
+/// is listed the session can have ended, by any order that the packets allow, in the listed ends
+/// alone.
+pub fn a_yes_lists_all_ends()
+    ensures way { WayYesListsEveryEnd }
+    ensures made { MadeYesListsEveryEnd }
+{
+    a_member_is_reached();
+    records_tell_the_state();
+    runs_of_entries_are_whole();
+    a_yes_lists_all_ends_in_its_states();
 }

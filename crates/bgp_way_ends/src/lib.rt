@@ -1,16 +1,16 @@
 //! Laws of the ends of a session over all orders that the packets allow. All whole ways
-//! ([`bgp_orders`]) that end in one state have the same ends: the same sets of disabled families,
-//! each with the same routes. So what the records of one of them tell is told of all.
+//! ([`bgp_orders`]) of a connection end in one state, with the same ends: the same sets of disabled
+//! families, each with the same routes. So what the records of one of them tell is told of all.
 //!
 //! ```text
-//! whole_ways_end_alike();
-//! // The ends of the records that `record_whole_way` returns are all that whole ways have in that
-//! // state.
+//! a_yes_lists_all_ends();
+//! // The ends of the records that `record_whole_way` returns are all that whole ways have.
 //! ```
 #![tactic(auto)]
 
 mod laws;
 
 pub use laws::{
-    a_yes_lists_all_ends_in_its_states, one_way_for_each_state_is_enough, whole_ways_end_alike,
+    a_yes_lists_all_ends, a_yes_lists_all_ends_in_its_states, one_way_for_each_state_is_enough,
+    whole_ways_end_alike, whole_ways_end_in_one_state,
 };

@@ -42,6 +42,7 @@ IsChecking checking file rows =
     × (checking.routes ≡ is_given (codes "routes") rows)
     × (checking.settings ≡ is_given (codes "settings") rows)
     × (checking.quiet ≡ is_given (codes "quiet") rows)
+    × (checking.json ≡ is_given (codes "json") rows)
     × (first_of (codes "FILE") rows ≡ Some file)
 
 -- a command to import can be done: its session is of one family, and its ends can be told apart

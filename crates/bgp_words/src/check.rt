@@ -59,6 +59,9 @@ With -q only the ends that are a no or unfinished and what is refused are printe
 line of its connection or session. If nothing of that is left, nothing is printed, unless the file
 has no session at all. The exit status says the same as without.
 
+check --json prints the same as JSON objects, one a line: of a connection or a session, of the answer
+on each end and each thing that is said beside it, and last of the counts.
+
 ROUTE-REFRESH messages that their receiver's OPEN offers to read are passed over, and a note counts
 them. If a connection, a session or the file can't be read, a line says so, as those of bgp list do.
 
@@ -86,10 +89,12 @@ pub struct Checking {
     pub settings: bool,
     /// Whether the ends that are well or not judged are left out.
     pub quiet: bool,
+    /// Whether each line is a JSON object.
+    pub json: bool,
 }
 
 /// The words after `check`.
-static WORDS: [Word<'static>; 6] = [
+static WORDS: [Word<'static>; 7] = [
     READ,
     PORT,
     WITHIN,
@@ -103,6 +108,7 @@ static WORDS: [Word<'static>; 6] = [
         'q',
         "Prints only what is a no, unfinished or refused",
     ),
+    Word::Flag("json", "Prints each line as a JSON object"),
 ];
 
 /// What the words of `check` may be.
@@ -135,6 +141,7 @@ pub(crate) fn check_of<'a>(check: &ArgMatches<'a>) -> Result<Command<'a>, Misfit
         routes: has_flag(check, "routes"),
         settings: has_flag(check, "settings"),
         quiet: has_flag(check, "quiet"),
+        json: has_flag(check, "json"),
     };
     let file = value_of(check, "FILE")?;
     Ok(Command::Check { checking, file })

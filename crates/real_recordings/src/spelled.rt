@@ -171,9 +171,10 @@ fn put_check(text: &mut String, checking: &Checking, file: &str) -> Result<(), A
     let routes = if checking.routes { " routes" } else { "" };
     let settings = if checking.settings { " settings" } else { "" };
     let quiet = if checking.quiet { " quiet" } else { "" };
+    let json = if checking.json { " json" } else { "" };
     write!(
         text,
-        "check port {port} within {within}{routes}{settings}{quiet} file {file:?}"
+        "check port {port} within {within}{routes}{settings}{quiet}{json} file {file:?}"
     )
 }
 

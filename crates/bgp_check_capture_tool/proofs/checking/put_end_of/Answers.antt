@@ -1,13 +1,14 @@
 use Rattle.std.proofs.Common.{map}
 use Rattle.mrt_sessions.specs.Located.{located}
 use Rattle.bgp_text.proofs.Pieces.{Joins}
+use Rattle.bgp_check_lines.proofs.Puts.{no_lines}
 use Rattle.bgp_list.specs.Sessions.{session_line}
 use Rattle.bgp_check_capture_tool.proofs.Adds.{fault_added, none_added}
 use Rattle.bgp_check_capture_tool.proofs.checking.put_end_of.Goals as goal
 
 pub returns-in-None : goal.returns-in-None
 returns-in-None g c =
-    rw c.in-None.is (none_added (session_line c.args.addresses (map located c.args.named.now)) c.args.lines.now c.put.new.self c.args.is_headed c.put.ensures)
+    rw c.in-None.is (none_added (session_line c.args.addresses (map located c.args.named.now)) c.args.lines.now c.args.lines.now c.args.is_headed (no_lines g.met.W.Sink.nothing c.args.lines.now))
 
 pub returns-in-Some : goal.returns-in-Some
 returns-in-Some g c =

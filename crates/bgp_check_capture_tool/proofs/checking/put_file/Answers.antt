@@ -4,7 +4,8 @@ use Rattle.std.specs.List.{AllByRecursion}
 use Rattle.mrt_sessions.specs.Located.{located}
 use Rattle.mrt_sessions.specs.Sessions.{HoldsSessions}
 use Rattle.mrt_sessions.specs.declared.named.NamedRecord.{NamedRecord}
-use Rattle.bgp_text.specs.Lines.{Writes}
+use Rattle.bgp_check_lines.specs.Lines.{PutsLines}
+use Rattle.bgp_check_lines.proofs.Puts.{no_lines}
 use Rattle.bgp_check_capture_tool.specs.Checking.{IsBlock, blocks_text}
 use Rattle.bgp_check_capture_tool.specs.Firsts.{AreApart}
 use Rattle.bgp_check_capture_tool.specs.declared.telling.Telling.{Telling}
@@ -14,8 +15,15 @@ use Rattle.bgp_check_capture_tool.proofs.checking.put_file.Goals as goal
 pub returns-in_default-clause-puts : goal.returns-in_default-clause-puts
 returns-in_default-clause-puts g c = record {
   text = [];
-  wrote = c.put.ensures;
+  wrote = no_lines g.met.W.Sink.nothing c.args.lines.now;
   tells = inr (refl, c.without_memory.ensures.tally, c.without_memory.ensures.refusals, c.without_memory.ensures.sessions, c.without_memory.ensures.fault);
+}
+
+pub returns-in_default-of-clause-puts : goal.returns-in_default-of-clause-puts
+returns-in_default-of-clause-puts g c = record {
+  text = [];
+  wrote = no_lines g.met.W.Sink.nothing c.args.lines.now;
+  tells = inr (refl, c.without_memory-in_default-of.ensures.tally, c.without_memory-in_default-of.ensures.refusals, c.without_memory-in_default-of.ensures.sessions, c.without_memory-in_default-of.ensures.fault);
 }
 
 pub returns-in_default-clause-apart : goal.returns-in_default-clause-apart
@@ -34,7 +42,7 @@ returns-clause-puts g c =
     let puts = c.put_sessions-counted.ensures.puts named holds in
     record {
       text = blocks_text c.args.options.now.printing named puts.blocks;
-      wrote = subst (λ (telling : Telling). Writes c.args.lines.now c.put_sessions-counted.new.lines (blocks_text telling.printing named puts.blocks)) c.of-telling.ensures puts.wrote;
+      wrote = subst (λ (telling : Telling). PutsLines c.args.lines.now c.put_sessions-counted.new.lines (blocks_text telling.printing named puts.blocks)) c.of-telling.ensures puts.wrote;
       tells = inl (
         record {
           named = named;

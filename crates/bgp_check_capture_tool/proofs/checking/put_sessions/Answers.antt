@@ -1,6 +1,7 @@
 use Rattle.std.proofs.Common.{List, Option, subst, sym}
 use Rattle.mrt.specs.declared.fault.CaptureFault.{CaptureFault}
-use Rattle.bgp_text.proofs.Pieces.{Joins, nothing_yet}
+use Rattle.bgp_text.proofs.Pieces.{Joins}
+use Rattle.bgp_check_lines.proofs.Puts.{no_lines}
 use Rattle.bgp_check_capture_tool.specs.Firsts.{AreApart}
 use Rattle.bgp_check_capture_tool.proofs.Apart.{none_apart}
 use Rattle.bgp_check_capture_tool.proofs.Blocks.{all_put, held_are_own, none_put, one_put}
@@ -9,7 +10,7 @@ use Rattle.bgp_check_capture_tool.proofs.checking.put_sessions.Goals as goal
 pub loop-addresses-init : goal.loop-addresses-init
 loop-addresses-init g c = record {
   puts = λ named holds.
-      none_put c.args.telling named c.args.lines.now c.new-counted.result.tally c.new-counted.result.refusals.items (nothing_yet g.W.Sink g.met.W.Sink.nothing c.args.lines.now.outlet c.args.lines.now.held.items)
+      none_put c.args.telling named c.args.lines.now c.new-counted.result.tally c.new-counted.result.refusals.items (no_lines g.met.W.Sink.nothing c.args.lines.now)
       c.new-counted.ensures.tally c.new-counted.ensures.refusals;
   apart = subst (λ (fs : List (Option CaptureFault)). AreApart fs) (sym c.new-counted.ensures.refusals) none_apart;
 }

@@ -4,12 +4,13 @@ use Rattle.mrt_sessions.specs.File.{Located}
 use Rattle.mrt_sessions.specs.Located.{located}
 use Rattle.mrt_sessions.specs.Reading.{IsReading}
 use Rattle.bgp_list.specs.Sessions.{session_line}
+use Rattle.bgp_check_lines.proofs.Puts.{no_lines}
 use Rattle.bgp_check_capture_tool.proofs.Adds.{nothing_added}
 use Rattle.bgp_check_capture_tool.proofs.WholeSession.{all_told, seen_as}
 use Rattle.bgp_check_capture_tool.proofs.ends.put_ends.Goals as goal
 
 pub returns-in_default : goal.returns-in_default
-returns-in_default g c = record { ends = []; told = inr (refl, refl); adds = nothing_added (session_line c.args.addresses (map located c.args.named.now)) c.args.lines.now _ (not c.args.telling.printing.quiet) c.put.ensures; tallied = refl }
+returns-in_default g c = record { ends = []; told = inr (refl, refl); adds = nothing_added (session_line c.args.addresses (map located c.args.named.now)) c.args.lines.now _ (not c.args.telling.printing.quiet) (no_lines g.met.W.Sink.nothing c.args.lines.now); tallied = refl }
 
 pub returns-then-is_all : goal.returns-then-is_all
 returns-then-is_all g c =

@@ -1,6 +1,7 @@
 use Rattle.std.proofs.Common.{◌∙◌, Bool, true, [], if◌then◌else◌, subst, sym}
-use Rattle.bgp_text.specs.Lines.{Writes}
 use Rattle.bgp_text.proofs.Pieces.{Joins}
+use Rattle.bgp_check_lines.specs.Lines.{PutsLines}
+use Rattle.bgp_check_lines.proofs.Puts.{no_lines}
 use Rattle.bgp_list.specs.Sessions.{session_line}
 use Rattle.mrt_sessions.specs.declared.addresses.Addresses.{Addresses}
 use Rattle.bgp_check_capture_tool.specs.Ends.{Stretch}
@@ -14,16 +15,16 @@ pub returns-then-is_left_out : goal.returns-then-is_left_out
 returns-then-is_left_out g c =
     let view = c.args.view.now in
     let left = sym c.is_left_out.ensures ∙ c.if-is_left_out.true in
-    subst (λ (b : Bool). Adds (heading_of (view_value view)) c.args.lines.now c.put.new.self c.args.is_headed c.args.is_headed
+    subst (λ (b : Bool). Adds (heading_of (view_value view)) c.args.lines.now c.args.lines.now c.args.is_headed c.args.is_headed
     (if b then [] else end_text view.telling.printing.routes view.session.local (Stretch (stretch_value c.args.end.now)))) (sym left)
-    (nothing_added (heading_of (view_value view)) c.args.lines.now c.put.new.self c.args.is_headed c.put.ensures)
+    (nothing_added (heading_of (view_value view)) c.args.lines.now c.args.lines.now c.args.is_headed (no_lines g.met.W.Sink.nothing c.args.lines.now))
 
 pub returns-else-is_left_out : goal.returns-else-is_left_out
 returns-else-is_left_out g c =
     let law : Joins g.W.Sink = record { joined = g.met.W.Sink.joined } in
     let view = c.args.view.now in
     let kept = sym c.is_left_out.ensures ∙ c.if-is_left_out.false in
-    let first = subst (λ (a : Addresses). Writes c.args.lines.now c.put_heading.new.lines (if c.args.is_headed then [] else session_line a (view_value view).named)) c.addresses_of.ensures c.put_heading.ensures in
+    let first = subst (λ (a : Addresses). PutsLines c.args.lines.now c.put_heading.new.lines (if c.args.is_headed then [] else session_line a (view_value view).named)) c.addresses_of.ensures c.put_heading.ensures in
     subst (λ (b : Bool). Adds (heading_of (view_value view)) c.args.lines.now c.put_stretch.new.lines c.args.is_headed true
     (if b then [] else end_text view.telling.printing.routes view.session.local (Stretch (stretch_value c.args.end.now)))) (sym kept)
     (told_added law (heading_of (view_value view)) c.args.lines.now c.put_heading.new.lines c.put_stretch.new.lines c.args.is_headed _

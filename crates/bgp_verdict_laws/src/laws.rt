@@ -1,0 +1,24 @@
+//! Laws of lines and of whole outputs, each on a function that does nothing.
+
+ghost use Rattle.bgp_verdict_laws.specs.Laws.{LinesAreDetermined, OutputsAreDetermined};
+ghost use Rattle.bgp_verdict_laws.specs.Laws.{PrintedIsDetermined};
+ghost use Rattle.bgp_verdict_laws.specs.Numbers.{LinesHaveNumbers};
+
+/// States that the object of a line determines the line's text: of a verdict, an end, a route, a
+/// line of a reason, a connection, or a refusal.
+pub fn each_line_determines_its_text()
+    ensures { LinesAreDetermined }
+{}
+
+/// States that the lines of an output in JSON determine its text; and so does what is printed of a
+/// text, if memory wasn't refused (status 4).
+pub fn each_output_determines_its_text()
+    ensures lines { OutputsAreDetermined }
+    ensures printed { PrintedIsDetermined }
+{}
+
+/// States that each number of an output's objects is one that JSON can have (RFC 8259, 6), if those
+/// of its lines have 64 bits.
+pub fn each_number_is_one_of_json()
+    ensures { LinesHaveNumbers }
+{}
