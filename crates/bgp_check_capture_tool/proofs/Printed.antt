@@ -41,7 +41,7 @@ use Rattle.bgp_check_capture_tool.specs.Checking.{Block, IsBlock}
 use Rattle.bgp_check_capture_tool.specs.Ends.{End, IsSessionTold, Silent, Staying, Stretch, session_of}
 use Rattle.bgp_check_capture_tool.specs.Naming.{endpoint_of}
 use Rattle.bgp_check_capture_tool.specs.Places.{micro_after, place_after, place_in, place_to, second_at}
-use Rattle.bgp_check_capture_tool.specs.Printed.{BeginsWithNo, HasVerdictBy, IsTrueIfNo, IsTrueNo, NoesAreTrue, ReadStretch, ToldVerdictIsOverAll, judged_of}
+use Rattle.bgp_check_capture_tool.specs.Printed.{BeginsWithNo, HasVerdictBy, IsTrueIfNo, IsTrueNo, NoesAreTrue, ReadStretch, ToldVerdictIsOverAll}
 use Rattle.bgp_check_capture_tool.specs.StretchEnd.{StretchEnd}
 use Rattle.bgp_check_capture_tool.specs.Stretches.{first_of}
 use Rattle.bgp_check_capture_tool.specs.Text.{answer_text, end_text, notes_text}

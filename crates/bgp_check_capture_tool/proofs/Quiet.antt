@@ -1,7 +1,7 @@
 -- Where what is well is left out, just what isn't stays.
-use Rattle.std.proofs.Common.{◌≡◌, ◌∙◌, ◌+◌, ◌++◌, ◌||◌, ◌⊎◌, ℕ, Bool, true, false, not, List, [], ◌∷◌, Option, None, Some, if◌then◌else◌, is_some, inl, inr, refl, sym, ap, ap₂, append-nil, append_assoc, length, map}
+use Rattle.std.proofs.Common.{◌≡◌, ◌∙◌, ◌+◌, ◌++◌, ◌||◌, ℕ, Bool, true, false, not, List, [], ◌∷◌, Option, None, Some, if◌then◌else◌, is_some, inl, inr, refl, sym, ap, ap₂, append-nil, append_assoc, length, map}
 use Rattle.std.specs.List.{AllByRecursion, flat_map, list_any}
-use Rattle.std.proofs.lemmas.Bool.{cases_Bool, false≢true, or_parts}
+use Rattle.std.proofs.lemmas.Bool.{cases_Bool, false≢true}
 use Rattle.bgp_prefix.specs.Shown.{ShownRecord}
 use Rattle.bgp_prefix.specs.declared.address.Address.{Address}
 use Rattle.mrt.specs.declared.fault.CaptureFault.{CaptureFault}
@@ -19,9 +19,9 @@ use Rattle.bgp_check_text.specs.declared.quiet.Printing.{Printing}
 use Rattle.bgp_check_text.specs.declared.tally.Tally.{Tally}
 use Rattle.bgp_check_capture_tool.specs.Checking.{Block, IsBlock, block_text, blocks_text, nothing_text, telling_of}
 use Rattle.bgp_check_capture_tool.specs.Counted.{with_fault}
-use Rattle.bgp_check_capture_tool.specs.Ends.{AreTold, End, IsSessionTold, IsToldAsRead, IsToldOf, Silent, Staying, Stretch, TellsRecords, TellsStretches}
+use Rattle.bgp_check_capture_tool.specs.Ends.{AreTold, End, IsSessionTold, IsToldOf, Silent, Staying, Stretch, TellsRecords, TellsStretches}
 use Rattle.bgp_check_capture_tool.specs.Headings.{heading}
-use Rattle.bgp_check_capture_tool.specs.Quiet.{QuietKeepsTrouble, aloud, file_pieces, has_trouble, is_end_well, kept_of, pieces_of, printed, whole_of}
+use Rattle.bgp_check_capture_tool.specs.Quiet.{QuietKeepsTrouble, file_pieces, has_trouble, is_end_well, kept_of, pieces_of, printed, whole_of}
 use Rattle.bgp_check_capture_tool.specs.Stretches.{first_of}
 use Rattle.bgp_check_capture_tool.specs.StretchEnd.{IsStretchEnd, StretchEnd, View}
 use Rattle.bgp_check_capture_tool.specs.Text.{answer_text, end_text, ends_text, headed, kept_text}

@@ -1,5 +1,5 @@
 -- Where the records of a stretch stand in their session, which has these records in the file.
-use Rattle.std.specs.Prelude.{◌+◌, ◌-◌, ℕ, List, Option, None, Some, length, map, option_map}
+use Rattle.std.specs.Prelude.{◌+◌, ◌-◌, ℕ, List, Option, None, length, map, option_map}
 use Rattle.std.specs.Prelude.{slice_get, unwrap_or}
 use Rattle.bgp_prefix.specs.Shown.{ShownRecord, second_of}
 use Rattle.mrt.specs.Capture.{micro_of}

@@ -3,7 +3,6 @@ use Rattle.std.specs.Prelude.{◌≡◌, ◌-◌, false, ℕ, List, [], Option, 
 use Rattle.std.specs.Prelude.{option_map, take}
 use Rattle.bgp_prefix.specs.Shown.{ShownRecord}
 use Rattle.bgp_prefix.specs.declared.session.Session.{Session}
-use Rattle.bgp_why.specs.declared.endpoint.Endpoint.{Endpoint}
 use Rattle.bgp_why.specs.declared.other_orders.OtherOrders.TheVariants.{Unasked}
 use Rattle.bgp_why.specs.declared.place.Place.{Place}
 use Rattle.mrt_sessions.specs.File.{Located}
