@@ -367,7 +367,9 @@ fn plain_of(alloc: Global, answer: &str) -> io::Result<String> {
 /// Returns what the words of a command over a file answer.
 fn answer_of(alloc: Global, words: &str, file: &File<'_>) -> io::Result<String> {
     let words = words_of(alloc, words)?;
-    let command = command_of(alloc, words.as_slice())?;
+    let Ok(command) = command_of(alloc, words.as_slice()) else {
+        return Err(malformed());
+    };
     answer_by::<CompactTracker<Global>>(alloc, &command, file)
 }
 
