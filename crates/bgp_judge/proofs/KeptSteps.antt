@@ -51,14 +51,14 @@ own_opens config head (Sent t octets) left still turn own o = o
 own_opens config head (Changed t x y) left still turn own o = o
 
 -- a step is what it is said to be
-at_step : (P : List Want → Option (Fsm × Fsm) → Turn → Type 0) (changes : RouteChanges) (x : Step) (wants : List Want) (change : Option (Fsm × Fsm)) (turn : Turn)
+pub at_step : (P : List Want → Option (Fsm × Fsm) → Turn → Type 0) (changes : RouteChanges) (x : Step) (wants : List Want) (change : Option (Fsm × Fsm)) (turn : Turn)
     → IsStep changes x wants change turn → P wants change turn → P (wants_of x.wants) x.change (turn_of changes x.after)
 at_step P changes x wants change turn is p =
     subst (λ (v : Turn). P (wants_of x.wants) x.change v) (sym is.ends)
     (subst (λ (v : Option (Fsm × Fsm)). P (wants_of x.wants) v turn) (sym is.shows)
     (subst (λ (v : List Want). P v change turn) (sym is.sends) p))
 
-at_pays : (config : Config) (head : Head) (shown : ShownRecord) (x : Step) (wants : List Want) (change : Option (Fsm × Fsm)) (turn : Turn)
+pub at_pays : (config : Config) (head : Head) (shown : ShownRecord) (x : Step) (wants : List Want) (change : Option (Fsm × Fsm)) (turn : Turn)
     (left : List Want) (still : Option (Fsm × Fsm)) → IsStep no_changes x wants change turn → Pays config (link_at head) shown wants change left still
     → PaysOf config (link_at head) shown (unshown_of x) left still
 at_pays config head shown x wants change turn left still is p =
@@ -122,7 +122,7 @@ one_more config head t shown steps i d old new lt own second hidden before keeps
           })
     ])
 
-shows_some : (config : Config) (link : Option Link) (r : ShownRecord) (wants : List Want) (change : Option (Fsm × Fsm)) (left : List Want)
+pub shows_some : (config : Config) (link : Option Link) (r : ShownRecord) (wants : List Want) (change : Option (Fsm × Fsm)) (left : List Want)
     (still : Option (Fsm × Fsm)) → Pays config link r wants change left still → ShowsSome wants change
 shows_some config link (Received t octets) wants change left still p = absurd p
 shows_some config link (Sent t octets) [] change left still p = absurd p

@@ -6,6 +6,7 @@ pub mod Standing
 pub mod Chains
 pub mod KeptSteps
 pub mod OwnChanges
+pub mod Announced
 pub mod Gaining
 pub mod NextMembers
 pub mod PlainStanding

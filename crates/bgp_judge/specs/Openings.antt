@@ -1,10 +1,12 @@
 -- Lists of the steps that a record opens.
-use Rattle.std.specs.Prelude.{◌≡◌, ◌⊎◌, ◌++◌, List, [], ◌∷◌, Option}
+use Rattle.std.specs.Prelude.{◌≡◌, ◌≤◌, ◌⊎◌, ◌++◌, List, [], ◌∷◌, Option, length}
 use Rattle.bgp_prefix.specs.Shown.{ShownRecord, Received, Sent, Changed}
+use Rattle.bgp_wire.specs.Header.{header_of, type_of}
 use Rattle.bgp_open.specs.declared.config.Config.{Config}
 use Rattle.bgp_update.specs.Changes.{RouteChanges}
 use Rattle.bgp_machine.specs.declared.fsm.Fsm.{Fsm}
 use Rattle.bgp_machine.specs.declared.state.Head.{Head}
+use Rattle.bgp_machine.specs.declared.state.Head.TheVariants.{Established}
 use Rattle.bgp_machine.specs.declared.step.Step.{Step}
 use Rattle.bgp_machine.specs.declared.want.Want.{Want}
 use Rattle.bgp_machine.specs.Listed.{IsStep, TakesMemory, turn_of}
@@ -45,6 +47,12 @@ abbrev pub IsOwn : ShownRecord → Type 0
 IsOwn (Received t octets) = ⊥
 IsOwn (Sent t octets) = Unit {0}
 IsOwn (Changed t old new) = Unit {0}
+
+-- a message sent in Established whose header has the type of an UPDATE
+abbrev pub IsAnnouncement : Head → ShownRecord → Type 0
+IsAnnouncement (Established link timer) (Sent t octets) =
+    (19 ≤ length octets) × (type_of (header_of octets) ≡ 2)
+IsAnnouncement head shown = ⊥
 
 -- to list them takes memory: for an UPDATE received in Established that may be applied
 abbrev pub ListTakesMemory : Head → ShownRecord → Type 0

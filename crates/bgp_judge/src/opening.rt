@@ -1,20 +1,22 @@
 //! The steps that a record opens.
 
 ghost use Rattle.std.specs.Prelude.{◌≡◌, ◌↔◌, ◌<◌, ◌≤◌, ◌+◌, IfOk, IsErr, IsSome, MatchOption};
-ghost use Rattle.std.specs.Prelude.{None, OnErr, [], length};
+ghost use Rattle.std.specs.Prelude.{IsTrue, None, OnErr, [], length};
 ghost use Rattle.arrayvec.specs.ArrayVec.{array_vec_len};
 ghost use Rattle.bgp_prefix.specs.Shown.{second_of};
 ghost use Rattle.bgp_machine.specs.Listed.{ListsHidden, MakesChanges, changes_of, no_changes};
 ghost use Rattle.bgp_machine.specs.Lists.{Has};
 ghost use Rattle.bgp_machine.specs.State.{link_at};
 ghost use Rattle.mrt.specs.Reader.{shown_of};
-ghost use Rattle.bgp_judge.specs.Openings.{IsOpened, IsOwn, Keeps, ListTakesMemory, ListsOpenings};
-ghost use Rattle.bgp_judge.specs.Openings.{unshown_of};
+ghost use Rattle.bgp_judge.specs.Openings.{IsAnnouncement, IsOpened, IsOwn, Keeps, ListTakesMemory};
+ghost use Rattle.bgp_judge.specs.Openings.{ListsOpenings, unshown_of};
 ghost use Rattle.bgp_judge.specs.Unshown.{PaysNothing};
 
 use crate::unshown::{Unshown, pay};
 use arrayvec::ArrayVec;
-use bgp_machine::{Head, MOST_STEPS, Step, hidden_steps, list_message_steps};
+use bgp_machine::{
+    Head, HiddenRow, MOST_STEPS, Step, hidden_step, hidden_steps, list_message_steps,
+};
 use bgp_open::Config;
 use bgp_prefix::Seconds;
 use bgp_update::Changes;
@@ -87,6 +89,37 @@ fn own_openings(
     }
 }
 
+/// Checks whether the record is a message sent in Established whose header says that it is an
+/// UPDATE.
+#[tactic(auto, using(crate::proofs::Announced::type_at))]
+fn is_announcement(head: Head, shown: &Record<'_>) -> bool
+    ensures { IsTrue result ↔ IsAnnouncement head (shown_of shown.now) }
+{
+    match (head, *shown) {
+        (Head::Established(_, _), Record::Out(_, octets)) => octets.len() > 18 && octets[18] == 2,
+        _ => false,
+    }
+}
+
+/// Lists the step that such a record opens: the one that sends routes, if the UPDATE is clean. No
+/// other step of a state's own sends an UPDATE.
+fn announced(
+    config: &Config,
+    head: Head,
+    t: Seconds,
+    shown: &Record<'_>,
+    openings: &mut ArrayVec<Step, MOST_STEPS>,
+)
+    requires announcement { IsAnnouncement head (shown_of shown.now) }
+    requires second { second_of (shown_of shown.now) ≡ t }
+    requires none { openings.old.items ≡ [] }
+    ensures { ListsOpenings config.now head (shown_of shown.now) no_changes openings.new.items }
+{
+    if let Some(step) = hidden_step(config, head, t, HiddenRow::Announces) {
+        add_opened(config, head, step, shown, openings);
+    }
+}
+
 /// Lists the steps that the record opens and that aren't about a message. Returns that no changes
 /// stand beside them.
 fn hidden_openings<A: Allocator>(
@@ -104,6 +137,10 @@ fn hidden_openings<A: Allocator>(
     ensures none { result ≡ None }
     ensures kept { Has MakesChanges openings.new.items → ⊥ }
 {
+    if is_announcement(head, shown) {
+        announced(config, head, t, shown, openings);
+        return None;
+    }
     let steps = hidden_steps(config, head, t);
     own_openings(config, head, t, steps.as_slice(), shown, openings);
     None
