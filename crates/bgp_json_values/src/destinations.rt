@@ -101,6 +101,9 @@ pub fn are_spelled<A: Allocator>(
     ensures { IfOk result (λ is_so. is_so
         ≡ bytes_eq (spelled_destinations destinations.now) octets.now) }
 {
+    if destinations.is_empty() {
+        return Ok(octets.is_empty());
+    }
     let mut spelled = Vec::new(alloc);
     spelled.reserve(octets.len())?;
     spell_destinations(&mut spelled, destinations)?;

@@ -32,6 +32,10 @@ pub fn put_octets<A: Allocator + Copy>(
 /// How many octets the text of an IPv4 prefix has, with three digits for the length.
 const ROOM: usize = 19;
 
+/// How many octets the text of an IPv6 prefix has: eight groups of four digits and what stands
+/// between them, and three digits for the length.
+const IPV6_ROOM: usize = 43;
+
 /// Puts an IPv4 address.
 fn put_ipv4<A: Allocator>(writer: &mut Writer<A>, address: u32) -> Result<(), AllocError>
     ensures { Adds result writer.old writer.new (json_tokens (address_json (V4 address))) }
@@ -52,7 +56,8 @@ pub fn put_address<A: Allocator + Copy>(
     if let Address::V4(number) = address {
         return put_ipv4(writer, number);
     }
-    let text = address.to_string(alloc)?;
+    let mut text = String::with_capacity(alloc, IPV6_ROOM)?;
+    write!(text, "{address}")?;
     writer.string(text.as_str())
 }
 
@@ -82,7 +87,8 @@ pub fn put_prefix<A: Allocator + Copy>(
     if let Address::V4(address) = prefix.address() {
         return put_ipv4_prefix(writer, address, prefix.length());
     }
-    let text = prefix.to_string(alloc)?;
+    let mut text = String::with_capacity(alloc, IPV6_ROOM)?;
+    write!(text, "{prefix}")?;
     writer.string(text.as_str())
 }
 
