@@ -10,3 +10,5 @@ pub mod Counts
 pub mod NoOrder
 pub mod Entries
 pub mod SentPlaces
+pub mod Tidy
+pub mod Many

@@ -88,7 +88,7 @@ passing_is (Received x ∷ later) = passing_is later
 passing_is (Sent x ∷ later) = omega (arith, passing_is later)
 passing_is (Ended e ∷ later) = omega (arith, passing_is later)
 
-sent_left : (config : Config) (within : ℕ) (order : List Item) (n n2 : Node) → Goes config within n order n2 → length (sent_in order) + length n2.sent ≡ length n.sent
+pub sent_left : (config : Config) (within : ℕ) (order : List Item) (n n2 : Node) → Goes config within n order n2 → length (sent_in order) + length n2.sent ≡ length n.sent
 sent_left config within [] n n2 e = let same : length n2.sent ≡ length n.sent = ap (λ (v : Node). length v.sent) (sym e) in omega (arith, same)
 sent_left config within (Received x ∷ later) n n2 k =
     let same : k.0.sent ≡ n.sent = ap (λ (v : Node). v.sent) k.1.5 in
@@ -101,7 +101,7 @@ sent_left config within (Ended e ∷ later) n n2 k =
     let same : k.0.sent ≡ n.sent = ap (λ (v : Node). v.sent) k.1.5 in
     sent_left config within later k.0 n2 k.2 ∙ ap length same
 
-ends_left : (config : Config) (within : ℕ) (order : List Item) (n n2 : Node) → Goes config within n order n2 → length (ends_in order) + count_of n2.end ≡ count_of n.end
+pub ends_left : (config : Config) (within : ℕ) (order : List Item) (n n2 : Node) → Goes config within n order n2 → length (ends_in order) + count_of n2.end ≡ count_of n.end
 ends_left config within [] n n2 e = let same : count_of n2.end ≡ count_of n.end = ap (λ (v : Node). count_of v.end) (sym e) in omega (arith, same)
 ends_left config within (Received x ∷ later) n n2 k =
     ends_left config within later k.0 n2 k.2 ∙ ap (λ (v : Node). count_of v.end) k.1.5
@@ -146,10 +146,10 @@ row_of_explained law config within exchange count x =
     let is : passing order ≡ length (ends_in order) + count = omega (arith, passing_is order, k.1.2) in
     fewer_in_row config within exchange (length (ends_in order)) count k.0 (subst (λ (v : ℕ). InRow config within exchange v k.0) is here)
 
-first_sent : (config : Config) (exchange : Exchange) (n : Node) → IsFirstNode config exchange n → length n.sent ≡ length exchange.sent.now
+pub first_sent : (config : Config) (exchange : Exchange) (n : Node) → IsFirstNode config exchange n → length n.sent ≡ length exchange.sent.now
 first_sent config exchange n k = ap (λ (v : Node). length v.sent) k.4
 
-first_end : (config : Config) (exchange : Exchange) (n : Node) → IsFirstNode config exchange n → count_of n.end ≡ count_of exchange.end
+pub first_end : (config : Config) (exchange : Exchange) (n : Node) → IsFirstNode config exchange n → count_of n.end ≡ count_of exchange.end
 first_end config exchange n k = ap (λ (v : Node). count_of v.end) k.4
 
 -- and if their row has one, they are

@@ -175,7 +175,7 @@ among_free (x ∷ xs) m h free = elim h [
 
 -- ---- nodes that have members
 
-first_member : {X : Type 0} (members : List (PlainMember X)) → members ≢ [] → (m : Member) × Among members m
+pub first_member : {X : Type 0} (members : List (PlainMember X)) → members ≢ [] → (m : Member) × Among members m
 first_member [] some = absurd (some refl)
 first_member (x ∷ xs) some = (member_value x, inl refl)
 

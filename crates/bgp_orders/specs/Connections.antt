@@ -16,6 +16,7 @@ use Rattle.bgp_orders.specs.declared.connection.OverOrders.{OverOrders}
 use Rattle.bgp_orders.specs.declared.connection.OverOrders.TheVariants as over
 use Rattle.bgp_orders.specs.declared.connection.Unexplained.{Unexplained}
 use Rattle.bgp_orders.specs.Explained.{HasVerdictOver, Yes, No, Unfinished}
+use Rattle.bgp_orders.specs.Many.{AreTooMany}
 use Rattle.bgp_orders.specs.Ways.{IsWay, records_of_front}
 
 -- what packets tell of the session of the connection, the messages of either direction framed by
@@ -35,13 +36,14 @@ abbrev pub IsPacketOf : Exchange → Unexplained → Type 0
 IsPacketOf exchange u =
     IsSomeAnd (slice_get exchange.sent.now u.before) (λ m. m.packet ≡ u.packet)
 
--- the verdict over all ways holds, if it is known; and of a no the packet is that of its message
+-- The verdict over all ways holds, and of a no the packet is that of its message; if it isn't known,
+-- there are too many nodes.
 abbrev pub HoldsOver : Config → ℕ → Exchange → OverOrders → Type 0
 HoldsOver config within exchange over.Yes = HasVerdictOver config within exchange Yes
 HoldsOver config within exchange (over.No u) =
     HasVerdictOver config within exchange (No u.before) × IsPacketOf exchange u
 HoldsOver config within exchange over.Unfinished = HasVerdictOver config within exchange Unfinished
-HoldsOver config within exchange over.TooMany = Unit {0}
+HoldsOver config within exchange over.TooMany = AreTooMany config within exchange
 
 -- this is the verdict over all orders of the connection's messages that the packets allow
 pub record IsOverOrders (config : Config) (within : ℕ) (framings : Framings)

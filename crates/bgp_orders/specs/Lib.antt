@@ -8,3 +8,5 @@ pub mod Turns
 pub mod Entries
 pub mod WholeWays
 pub mod SentPlaces
+pub mod Tidy
+pub mod Many

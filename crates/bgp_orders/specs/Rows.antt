@@ -2,7 +2,7 @@
 -- keeps them.
 use Rattle.std.specs.Prelude.{◌≡◌, ◌≢◌, ◌⊎◌, ◌↔◌, ◌++◌, ℕ, zero, suc}
 use Rattle.std.specs.Prelude.{Bool, true, false, List, [], ◌∷◌}
-use Rattle.std.specs.Prelude.{Option, None, Some, IsSomeAnd, IfSome, drop, slice_get}
+use Rattle.std.specs.Prelude.{Option, None, Some, IsSomeAnd, MatchOption, drop, slice_get}
 use Rattle.bgp_prefix.specs.Shown as shown
 use Rattle.bgp_prefix.specs.Shown.{ShownRecord}
 use Rattle.streams.specs.declared.connection.End.{End}
@@ -22,6 +22,7 @@ use Rattle.bgp_orders.specs.declared.explained.Explained.TheVariants as answers
 use Rattle.bgp_orders.specs.declared.node.Node.{Node as CodeNode}
 use Rattle.bgp_orders.specs.declared.node.Spot.{Spot}
 use Rattle.bgp_orders.specs.Explained.{VerdictOver, Yes, No, Unfinished, HasVerdictOver}
+use Rattle.bgp_orders.specs.Many.{AreTooMany}
 use Rattle.bgp_orders.specs.Nodes.{Node, Hears, Says, Ends, IsFirstNode, first_node}
 use Rattle.bgp_orders.specs.Ways.{MayStart}
 
@@ -156,7 +157,8 @@ verdict_over (answers.All false) = Some Unfinished
 verdict_over (answers.Only count) = Some (No count)
 verdict_over answers.TooMany = None
 
--- the answer's verdict over all ways holds, if it has one
+-- the answer's verdict over all ways holds; if it has none, there are too many nodes
 abbrev pub IsAnswer : Config → ℕ → Exchange → Explained → Type 0
 IsAnswer config within exchange explained =
-    IfSome (verdict_over explained) (HasVerdictOver config within exchange)
+    MatchOption (verdict_over explained) (AreTooMany config within exchange)
+    (HasVerdictOver config within exchange)

@@ -1,11 +1,12 @@
 //! How much of an exchange some way explains.
 
 ghost use Rattle.std.specs.Prelude.{◌≡◌, ◌↔◌, ◌+◌, ◌<◌, ℕ, length};
-ghost use Rattle.std.specs.Prelude.{IfOk, IfSome, IsFalse, IsTrue, OnOk};
+ghost use Rattle.std.specs.Prelude.{IfOk, IfSome, IsFalse, IsTrue, MatchOption, OnOk};
 ghost use Rattle.bgp_recording.specs.Told.{IsTold};
 ghost use Rattle.bgp_orders.specs.Nodes.{IsFirstNode, Node as TheNode};
 ghost use Rattle.bgp_orders.specs.Rows.{GainsNodes, HasLast, HasSome, IsAnswer, IsIn};
 ghost use Rattle.bgp_orders.specs.Rows.{IsRow, StartsIn, count_of};
+ghost use Rattle.bgp_orders.specs.Tidy.{AreUpTo, HasMoreIn, IsTidy, StaysTidy};
 ghost use Rattle.bgp_orders.specs.Ways.{MayStart};
 
 use crate::explained::Explained;
@@ -43,8 +44,11 @@ fn add_start<A: Allocator + Copy>(
     start: State,
     nodes: &mut Vec<Node<A>, A>,
 ) -> Result<(), AllocError>
-    ensures { OnOk result (GainsNodes search.now.exchange nodes.old.items nodes.new.items
+    ensures gains { OnOk result (GainsNodes search.now.exchange nodes.old.items nodes.new.items
         (StartsIn search.now.config search.now.exchange start)) }
+    ensures tidy { OnOk result (IsTidy search.now.exchange nodes.old.items
+        → AreUpTo 0 nodes.old.items
+        → StaysTidy search.now.exchange 0 nodes.old.items nodes.new.items) }
 {
     if !may_start(&search.exchange, start) {
         return Ok(());
@@ -57,12 +61,14 @@ fn add_start<A: Allocator + Copy>(
 }
 
 /// Returns the nodes at which a way begins.
-fn first_nodes<A: Allocator + Copy>(
+pub(crate) fn first_nodes<A: Allocator + Copy>(
     alloc: A,
     search: &Search<'_, '_>,
 ) -> Result<Vec<Node<A>, A>, AllocError>
-    ensures { IfOk result (λ nodes. (n : TheNode) → IsIn search.now.exchange nodes.items n
+    ensures nodes { IfOk result (λ nodes. (n : TheNode) → IsIn search.now.exchange nodes.items n
         ↔ IsFirstNode search.now.config search.now.exchange n) }
+    ensures tidy { IfOk result (λ nodes. IsTidy search.now.exchange nodes.items
+        × AreUpTo 0 nodes.items) }
 {
     let mut nodes = Vec::new(alloc);
     add_start(alloc, search, State::Connect, &mut nodes)?;
@@ -76,8 +82,11 @@ pub(crate) fn first_row<A: Allocator + Copy>(
     search: &Search<'_, '_>,
     most: usize,
 ) -> Result<Option<Vec<Node<A>, A>>, AllocError>
-    ensures { IfOk result (λ row. IfSome row (λ nodes.
+    ensures row { IfOk result (λ row. IfSome row (λ nodes.
         IsRow search.now.config search.now.within search.now.exchange 0 nodes.items)) }
+    ensures many { IfOk result (λ row. MatchOption row
+        (HasMoreIn A search.now.config search.now.within search.now.exchange 0 most)
+        (λ nodes. IsTidy search.now.exchange nodes.items)) }
 {
     let first = first_nodes(alloc, search)?;
     let none: Vec<Node<A>, A> = Vec::new(alloc);
@@ -91,10 +100,15 @@ pub(crate) fn row_after<A: Allocator + Copy>(
     row: &[Node<A>],
     most: usize,
 ) -> Result<Option<Vec<Node<A>, A>>, AllocError>
-    ensures { (count : ℕ)
+    ensures row { (count : ℕ)
         → IsRow search.now.config search.now.within search.now.exchange count row.now
         → IfOk result (λ next. IfSome next (λ nodes.
         IsRow search.now.config search.now.within search.now.exchange (count + 1) nodes.items)) }
+    ensures many { (count : ℕ)
+        → IsRow search.now.config search.now.within search.now.exchange count row.now
+        → IsTidy search.now.exchange row.now → IfOk result (λ next. MatchOption next
+        (HasMoreIn A search.now.config search.now.within search.now.exchange (count + 1) most)
+        (λ nodes. IsTidy search.now.exchange nodes.items)) }
 {
     search.next_row(alloc, row, Vec::new(alloc), most)
 }
@@ -137,8 +151,9 @@ pub(crate) fn row_count(exchange: &Exchange<'_, '_>) -> usize
 /// some way; or so many, and not the next one. So with `Only` no order that the packets allow has a
 /// run of the session machine that explains the next sent message and all before it.
 ///
-/// Takes time and memory for at most [`MOST_NODES`] nodes and the last row's steps, and answers
-/// `TooMany` if there are more. Returns `AllocError` if memory is refused.
+/// Takes time and memory for at most [`MOST_NODES`] nodes and the last row's steps. `TooMany` says
+/// that more nodes than these are reached, no two of them equal. Returns `AllocError` if memory is
+/// refused.
 pub fn explained_count<A: Allocator + Copy>(
     alloc: A,
     config: &Config,

@@ -42,5 +42,4 @@ pub use laws::{
     patience_keeps_verdicts, ways_begin_with_their_fronts, whole_ways_are_reached,
 };
 pub use sent_place::{SentPlace, place_of_sent};
-pub use tracing::MOST_KEPT;
 pub use whole::{entries_of_whole_way, record_whole_way, runs_of_entries_are_whole};

@@ -1,11 +1,16 @@
 //! Nodes: where a walk through an exchange stands, with members that explain the records so far.
 
-ghost use Rattle.std.specs.Prelude.{[], ◌∷◌, ◌≡◌, ◌≢◌, ◌↔◌, ◌≤◌, IfOk, IsTrue, OnOk, length};
+ghost use Rattle.std.specs.Prelude.{[], ◌∷◌, ◌≡◌, ◌≢◌, ◌↔◌, ◌≤◌, ℕ, IfOk, IfSome, IsFalse};
+ghost use Rattle.std.specs.Prelude.{IsTrue, OnOk, length};
+ghost use Rattle.bgp_machine.specs.Lists.{Has};
+ghost use Rattle.bgp_judge.specs.Chains.{bare};
 ghost use Rattle.bgp_judge.specs.Member.{IsFree, Member};
 ghost use Rattle.bgp_recording.specs.declared.ordering.Exchange.{Exchange as TheExchange};
 ghost use Rattle.bgp_judge.specs.Plain.{Among, member_value};
 ghost use Rattle.bgp_orders.specs.Nodes.{Node as TheNode};
 ghost use Rattle.bgp_orders.specs.Rows.{GainsNodes, HasSome, IsIn, IsMade, IsOf, node_at};
+ghost use Rattle.bgp_orders.specs.Tidy.{AreInOrder, AreUpTo, IsTidy, IsWithin, KeepsOne};
+ghost use Rattle.bgp_orders.specs.Tidy.{StandsAt, StaysTidy};
 ghost use Rattle.bgp_orders.specs.Turns.{first_spot};
 
 use bgp_judge::PlainMember;
@@ -68,7 +73,7 @@ impl Spot {
 
 /// Checks whether the member is in the list.
 fn has_member<A: Allocator>(members: &[PlainMember<A>], member: &PlainMember<A>) -> bool
-    ensures { IsTrue result → Among members.now (member_value member.now) }
+    ensures { IsTrue result ↔ Among members.now (member_value member.now) }
 {
     for x in members {
         if x.is_same(member) {
@@ -81,8 +86,10 @@ fn has_member<A: Allocator>(members: &[PlainMember<A>], member: &PlainMember<A>)
 /// Checks whether the last nodes, which have as many received messages as the spot behind them,
 /// have one of this spot and member.
 pub(crate) fn has<A: Allocator>(nodes: &[Node<A>], spot: Spot, member: &PlainMember<A>) -> bool
-    ensures { IsTrue result → (exchange : TheExchange)
+    ensures there { IsTrue result → (exchange : TheExchange)
         → IsIn exchange nodes.now (node_at exchange spot (member_value member.now)) }
+    ensures none { IsFalse result → AreInOrder nodes.now → AreUpTo spot.place.received nodes.now
+        → ¬ Has (KeepsOne spot (member_value member.now)) nodes.now }
 {
     let mut left = nodes;
     while let Some((node, others)) = left.split_last() {
@@ -116,9 +123,13 @@ fn add<A: Allocator + Copy>(
     spot: Spot,
     member: PlainMember<A>,
 ) -> Result<(), AllocError>
-    ensures { OnOk result ((exchange : TheExchange)
+    ensures gains { OnOk result ((exchange : TheExchange)
         → GainsNodes exchange nodes.old.items nodes.new.items
         (λ n. n ≡ node_at exchange spot (member_value member))) }
+    ensures tidy { OnOk result ((exchange : TheExchange) → IsTidy exchange nodes.old.items
+        → IsWithin exchange spot → bare (member_value member) ≡ member_value member
+        → AreUpTo spot.place.received nodes.old.items
+        → StaysTidy exchange spot.place.received nodes.old.items nodes.new.items) }
 {
     if has(nodes.as_slice(), spot, &member) {
         return Ok(());
@@ -134,8 +145,11 @@ pub(crate) fn add_each<A: Allocator + Copy>(
     nodes: &mut Vec<Node<A>, A>,
     made: Node<A>,
 ) -> Result<(), AllocError>
-    ensures { OnOk result ((exchange : TheExchange)
+    ensures gains { OnOk result ((exchange : TheExchange)
         → GainsNodes exchange nodes.old.items nodes.new.items (IsOf exchange made)) }
+    ensures tidy { OnOk result ((exchange : TheExchange) → IsTidy exchange nodes.old.items
+        → IsWithin exchange made.spot → AreUpTo made.spot.place.received nodes.old.items
+        → StaysTidy exchange made.spot.place.received nodes.old.items nodes.new.items) }
 {
     let spot = made.spot;
     let mut members = made.members;
@@ -152,8 +166,12 @@ pub(crate) fn add_made<A: Allocator + Copy>(
     nodes: &mut Vec<Node<A>, A>,
     made: Option<Node<A>>,
 ) -> Result<(), AllocError>
-    ensures { OnOk result ((exchange : TheExchange)
+    ensures gains { OnOk result ((exchange : TheExchange)
         → GainsNodes exchange nodes.old.items nodes.new.items (IsMade exchange made)) }
+    ensures tidy { OnOk result ((exchange : TheExchange) (received : ℕ)
+        → IsTidy exchange nodes.old.items → IfSome made (StandsAt exchange received)
+        → AreUpTo received nodes.old.items
+        → StaysTidy exchange received nodes.old.items nodes.new.items) }
 {
     let Some(made) = made else {
         return Ok(());

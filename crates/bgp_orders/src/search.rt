@@ -1,7 +1,8 @@
 //! The search through nodes: what one more item makes of a node, and of a row of them.
 
-ghost use Rattle.std.specs.Prelude.{[], ◌≡◌, ◌⊎◌, ◌↔◌, ◌<◌, ◌∷◌, drop, length, map};
-ghost use Rattle.std.specs.Prelude.{IfNone, IfOk, IfSome, IsFalse, IsTrue, OnOk};
+ghost use Rattle.std.specs.Prelude.{[], ◌≡◌, ◌⊎◌, ◌↔◌, ◌<◌, ◌≤◌, ◌+◌, ◌∷◌, drop, length, map};
+ghost use Rattle.std.specs.Prelude.{IfNone, IfOk, IfSome, IsFalse, IsTrue, MatchOption, OnOk};
+ghost use Rattle.std.specs.Prelude.{slice_get};
 ghost use Rattle.streams.specs.declared.connection.End.{End as TheEnd};
 ghost use Rattle.mrt.specs.Reader.{shown_of};
 ghost use Rattle.bgp_recording.specs.declared.message.Message.{Message as TheMessage};
@@ -12,6 +13,8 @@ ghost use Rattle.bgp_judge.specs.Plain.{member_value};
 ghost use Rattle.bgp_orders.specs.Nodes.{Ends, Hears, Node as TheNode, Says};
 ghost use Rattle.bgp_orders.specs.Rows.{GainsNodes, InNextRow, IsIn, IsMade, IsOf};
 ghost use Rattle.bgp_orders.specs.Rows.{IsOfPlace, LeadTo, Passes, pending_at};
+ghost use Rattle.bgp_orders.specs.Tidy.{AreUpTo, HasMoreNext, IsTidy, IsWithin, StandsAt};
+ghost use Rattle.bgp_orders.specs.Tidy.{StaysTidy};
 ghost use Rattle.bgp_orders.specs.Turns.{Closing, Hearing, Saying};
 ghost use Rattle.bgp_orders.specs.Ways.{changed_to, end_records};
 
@@ -362,9 +365,11 @@ impl<'a> Search<'_, 'a> {
         alloc: A,
         node: &Node<A>,
     ) -> Result<Option<Node<A>>, AllocError>
-        ensures { IfOk result (λ made. (n2 : TheNode) → IsMade self.now.exchange made n2
+        ensures made { IfOk result (λ made. (n2 : TheNode) → IsMade self.now.exchange made n2
             ↔ ((n : TheNode) × IsOf self.now.exchange node.now n
             × (x : TheMessage) × Hears self.now.config n x n2)) }
+        ensures stands { IsWithin self.now.exchange node.now.spot → IfOk result (λ made. IfSome made
+            (StandsAt self.now.exchange (node.now.spot.place.received + 1))) }
     {
         let Some(turn) = self.hearing(node.spot) else {
             return Ok(None);
@@ -382,9 +387,11 @@ impl<'a> Search<'_, 'a> {
         alloc: A,
         node: &Node<A>,
     ) -> Result<Option<Node<A>>, AllocError>
-        ensures { IfOk result (λ made. (n2 : TheNode) → IsMade self.now.exchange made n2
+        ensures made { IfOk result (λ made. (n2 : TheNode) → IsMade self.now.exchange made n2
             ↔ ((n : TheNode) × IsOf self.now.exchange node.now n
             × (x : TheMessage) × Says self.now.config self.now.within n x n2)) }
+        ensures stands { IsWithin self.now.exchange node.now.spot → IfOk result (λ made. IfSome made
+            (StandsAt self.now.exchange node.now.spot.place.received)) }
     {
         let Some(turn) = self.saying(node.spot) else {
             return Ok(None);
@@ -402,9 +409,11 @@ impl<'a> Search<'_, 'a> {
         alloc: A,
         node: &Node<A>,
     ) -> Result<Option<Node<A>>, AllocError>
-        ensures { IfOk result (λ made. (n2 : TheNode) → IsMade self.now.exchange made n2
+        ensures made { IfOk result (λ made. (n2 : TheNode) → IsMade self.now.exchange made n2
             ↔ ((n : TheNode) × IsOf self.now.exchange node.now n
             × (e : TheEnd) × Ends self.now.config self.now.within n e n2)) }
+        ensures stands { IsWithin self.now.exchange node.now.spot → IfOk result (λ made. IfSome made
+            (StandsAt self.now.exchange node.now.spot.place.received)) }
     {
         let Some(ending) = self.ending(node.spot) else {
             return Ok(None);
@@ -426,9 +435,11 @@ impl<'a> Search<'_, 'a> {
         alloc: A,
         node: &Node<A>,
     ) -> Result<Option<Node<A>>, AllocError>
-        ensures { IfOk result (λ made. (n2 : TheNode) → IsMade self.now.exchange made n2
+        ensures made { IfOk result (λ made. (n2 : TheNode) → IsMade self.now.exchange made n2
             ↔ ((n : TheNode) × IsOf self.now.exchange node.now n
             × Passes self.now.config self.now.within n n2)) }
+        ensures stands { IsWithin self.now.exchange node.now.spot → IfOk result (λ made. IfSome made
+            (StandsAt self.now.exchange node.now.spot.place.received)) }
     {
         if are_left(self.exchange.sent, node.spot.place.sent) {
             self.said(alloc, node)
@@ -438,16 +449,21 @@ impl<'a> Search<'_, 'a> {
     }
 
     /// Appends to a row what a node of the row before becomes by what is sent next.
-    fn pass_one<A: Allocator + Copy>(
+    pub(crate) fn pass_one<A: Allocator + Copy>(
         &self,
         alloc: A,
         row: &[Node<A>],
         index: usize,
         next: &mut Vec<Node<A>, A>,
     ) -> Result<(), AllocError>
-        ensures { OnOk result (GainsNodes self.now.exchange next.old.items next.new.items
+        ensures gains { OnOk result (GainsNodes self.now.exchange next.old.items next.new.items
             (λ n2. (n : TheNode) × IsOfPlace self.now.exchange row.now index n
             × Passes self.now.config self.now.within n n2)) }
+        ensures tidy { OnOk result (IfSome (slice_get row.now index) (λ from.
+            IsWithin self.now.exchange from.spot → IsTidy self.now.exchange next.old.items
+            → AreUpTo from.spot.place.received next.old.items
+            → StaysTidy self.now.exchange from.spot.place.received next.old.items
+            next.new.items)) }
     {
         let Some(node) = row.get(index) else {
             return Ok(());
@@ -459,15 +475,18 @@ impl<'a> Search<'_, 'a> {
     }
 
     /// Returns what the next received message makes of a node of a row, if it may stand next.
-    fn heard_at<A: Allocator + Copy>(
+    pub(crate) fn heard_at<A: Allocator + Copy>(
         &self,
         alloc: A,
         row: &[Node<A>],
         index: usize,
     ) -> Result<Option<Node<A>>, AllocError>
-        ensures { IfOk result (λ made. (n2 : TheNode) → IsMade self.now.exchange made n2
+        ensures made { IfOk result (λ made. (n2 : TheNode) → IsMade self.now.exchange made n2
             ↔ ((n : TheNode) × IsOfPlace self.now.exchange row.now index n
             × (x : TheMessage) × Hears self.now.config n x n2)) }
+        ensures stands { IfSome (slice_get row.now index) (λ from.
+            IsWithin self.now.exchange from.spot → IfOk result (λ made. IfSome made
+            (StandsAt self.now.exchange (from.spot.place.received + 1)))) }
     {
         let Some(node) = row.get(index) else {
             return Ok(None);
@@ -485,9 +504,13 @@ impl<'a> Search<'_, 'a> {
         first: Vec<Node<A>, A>,
         most: usize,
     ) -> Result<Option<Vec<Node<A>, A>>, AllocError>
-        ensures { IfOk result (λ next. IfSome next (λ nodes. (n : TheNode)
+        ensures row { IfOk result (λ next. IfSome next (λ nodes. (n : TheNode)
             → IsIn self.now.exchange nodes.items n
             ↔ InNextRow self.now.config self.now.within self.now.exchange row.now first.items n)) }
+        ensures many { IsTidy self.now.exchange row.now → IsTidy self.now.exchange first.items
+            → AreUpTo 0 first.items → IfOk result (λ next. MatchOption next
+            (HasMoreNext self.now.config self.now.within self.now.exchange row.now first.items most)
+            (λ nodes. IsTidy self.now.exchange nodes.items)) }
     {
         let mut next = first;
         let mut passed = 0;
@@ -512,7 +535,7 @@ impl<'a> Search<'_, 'a> {
 
 /// Chooses between a node of the row before and one of this row: the one with fewer received
 /// messages, so that a row has its nodes in the order of these. At least one of the two is there.
-fn is_passed_next<A: Allocator>(
+pub(crate) fn is_passed_next<A: Allocator>(
     row: &[Node<A>],
     passed: usize,
     next: &[Node<A>],
@@ -521,6 +544,10 @@ fn is_passed_next<A: Allocator>(
     requires { (passed < length row.now) ⊎ (heard < length next.now) }
     ensures passed { IsTrue result → passed < length row.now }
     ensures heard { IsFalse result → heard < length next.now }
+    ensures fewer { IfSome (slice_get row.now passed) (λ from.
+        IfSome (slice_get next.now heard) (λ to.
+        (IsTrue result → from.spot.place.received ≤ to.spot.place.received)
+        × (IsFalse result → to.spot.place.received < from.spot.place.received))) }
 {
     match (row.get(passed), next.get(heard)) {
         (Some(from), Some(to)) => from.spot.place.received <= to.spot.place.received,

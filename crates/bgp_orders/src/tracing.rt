@@ -1,15 +1,14 @@
-//! The steps of a walk to a node where all is explained, found by going back through the rows.
+//! The steps of a walk to a node where all is explained: the search once more, which keeps from
+//! which node each one came.
 
-use crate::counting::{first_row, row_after, row_count};
+ghost use Rattle.std.specs.Prelude.{length};
+
+use crate::counting::{MOST_NODES, first_nodes, row_count};
 use crate::course::Step;
-use crate::node::{Node, add_made, has};
-use crate::search::Search;
+use crate::node::{Node, add_made};
+use crate::search::{Search, is_passed_next};
 use bgp_recording::{Exchange, State};
 use std::alloc::{AllocError, Allocator};
-
-/// How many nodes are kept at most for the steps of a way. All rows are kept, and a node takes some
-/// 400 octets with its member: 50 MB. The verdict's search, with more nodes, keeps two rows alone.
-pub const MOST_KEPT: usize = 131_072;
 
 /// Where a walk begins, and its steps.
 #[derive(Drop)]
@@ -18,36 +17,90 @@ pub(crate) struct Track<A: Allocator> {
     pub(crate) steps: Vec<Step, A>,
 }
 
-/// Where a node is kept: in which row, and at which place of it.
+/// Where a node of a row came from: eight octets for each node. A row has no more nodes than fit.
 #[derive(Clone, Copy)]
-struct Seat {
-    row: usize,
-    index: usize,
+enum Origin {
+    /// A walk begins there, in this state.
+    Start(State),
+    /// A received message leads there from the node at this place of the same row, counted from 1.
+    Received(u32),
+    /// What is sent next leads there from the node at this place of the row before, counted from 1.
+    Passed(u32),
 }
 
-/// Returns all rows, if they have no more nodes than [`MOST_KEPT`].
-fn all_rows<A: Allocator + Copy>(
+impl Origin {
+    fn received(place: usize) -> Origin {
+        Origin::Received(u32::try_from(place).unwrap_or(0))
+    }
+
+    fn passed(place: usize) -> Origin {
+        Origin::Passed(u32::try_from(place).unwrap_or(0))
+    }
+}
+
+/// A row, and where each of its nodes came from.
+#[derive(Drop)]
+struct Traced<A: Allocator> {
+    nodes: Vec<Node<A>, A>,
+    origins: Vec<Origin, A>,
+}
+
+/// Notes that the nodes of a row without an origin, of so many, have this one.
+fn note<A: Allocator>(
+    origins: &mut Vec<Origin, A>,
+    count: usize,
+    origin: Origin,
+) -> Result<(), AllocError> {
+    while origins.len() < count {
+        origins.push(origin)?;
+    }
+    Ok(())
+}
+
+/// Returns where the first nodes of the first row came from.
+fn first_origins<A: Allocator>(alloc: A, nodes: &[Node<A>]) -> Result<Vec<Origin, A>, AllocError> {
+    let mut origins = Vec::new(alloc);
+    for node in nodes {
+        origins.push(Origin::Start(node.spot.state))?;
+    }
+    Ok(origins)
+}
+
+/// Returns the row behind another, as [`Search::next_row`] does, with where its nodes came from. The
+/// first nodes came from there.
+fn traced_row<A: Allocator + Copy>(
     alloc: A,
     search: &Search<'_, '_>,
-) -> Result<Option<Vec<Vec<Node<A>, A>, A>>, AllocError> {
-    let Some(first) = first_row(alloc, search, MOST_KEPT)? else {
-        return Ok(None);
-    };
-    let mut kept = first.len();
-    let mut rows = Vec::new(alloc);
-    rows.push(first)?;
-    for _ in 0..row_count(&search.exchange) {
-        let Some(row) = rows.last() else {
+    row: &[Node<A>],
+    first: Vec<Node<A>, A>,
+    first_origins: Vec<Origin, A>,
+    most: usize,
+) -> Result<Option<Traced<A>>, AllocError> {
+    let mut next = first;
+    let mut origins = first_origins;
+    let mut passed = 0;
+    let mut heard = 0;
+    while passed < row.len() || heard < next.len() {
+        if next.len() > most {
             return Ok(None);
+        }
+        let nodes = next.as_slice();
+        let origin = if is_passed_next(row, passed, nodes, heard) {
+            search.pass_one(alloc, row, passed, &mut next)?;
+            passed += 1;
+            Origin::passed(passed)
+        } else {
+            let made = search.heard_at(alloc, nodes, heard)?;
+            add_made(alloc, &mut next, made)?;
+            heard += 1;
+            Origin::received(heard)
         };
-        let most = MOST_KEPT.saturating_sub(kept);
-        let Some(next) = row_after(alloc, search, row.as_slice(), most)? else {
-            return Ok(None);
-        };
-        kept = kept.saturating_add(next.len());
-        rows.push(next)?;
+        note(&mut origins, next.len(), origin)?;
     }
-    Ok(Some(rows))
+    Ok(Some(Traced {
+        nodes: next,
+        origins,
+    }))
 }
 
 /// Returns where in a row a node is that has no received message left and a member that has shown
@@ -62,136 +115,75 @@ fn last_index<A: Allocator>(exchange: &Exchange<'_, '_>, row: &[Node<A>]) -> Opt
     None
 }
 
-/// Returns where such a node of the last row is.
-fn last_seat<A: Allocator>(exchange: &Exchange<'_, '_>, rows: &[Vec<Node<A>, A>]) -> Option<Seat> {
-    let (row, before) = rows.split_last()?;
-    let index = last_index(exchange, row.as_slice())?;
-    Some(Seat {
-        row: before.len(),
-        index,
-    })
-}
-
-/// Checks whether a step leads from the one node to the other, which has one member.
-fn leads<A: Allocator + Copy>(
+/// Returns where the nodes of each row came from, and where in the last row such a node is. Returns
+/// `None` if there is none, or if there are more nodes than [`MOST_NODES`].
+fn trail_to_last<A: Allocator + Copy>(
     alloc: A,
     search: &Search<'_, '_>,
-    from: &Node<A>,
-    step: Step,
-    to: &Node<A>,
-) -> Result<bool, AllocError> {
-    let made = match step {
-        Step::Receive => search.heard(alloc, from)?,
-        Step::Pass => search.passed(alloc, from)?,
+) -> Result<Option<(Vec<Vec<Origin, A>, A>, usize)>, AllocError> {
+    let exchange = &search.exchange;
+    let first = first_nodes(alloc, search)?;
+    let origins = first_origins(alloc, first.as_slice())?;
+    let none: Vec<Node<A>, A> = Vec::new(alloc);
+    let Some(traced) = traced_row(alloc, search, none.as_slice(), first, origins, MOST_NODES)?
+    else {
+        return Ok(None);
     };
-    let mut nodes = Vec::new(alloc);
-    add_made(alloc, &mut nodes, made)?;
-    let Some(member) = to.members.first() else {
-        return Ok(false);
-    };
-    Ok(has(nodes.as_slice(), to.spot, member))
-}
-
-/// Returns the place of a node from which a step leads to the other one. Looks among so many nodes
-/// of a row, which stand in the order of their received messages, for those with so many of them.
-fn source<A: Allocator + Copy>(
-    alloc: A,
-    search: &Search<'_, '_>,
-    row: &[Node<A>],
-    count: usize,
-    received: usize,
-    step: Step,
-    to: &Node<A>,
-) -> Result<Option<usize>, AllocError> {
-    for index in (0..count).rev() {
-        let Some(from) = row.get(index) else {
+    let mut row = traced.nodes;
+    let mut kept = row.len();
+    let mut trail = Vec::new(alloc);
+    trail.push(traced.origins)?;
+    for _ in 0..row_count(exchange) {
+        let most = MOST_NODES.saturating_sub(kept);
+        let (none, origins) = (Vec::new(alloc), Vec::new(alloc));
+        let Some(traced) = traced_row(alloc, search, row.as_slice(), none, origins, most)? else {
             return Ok(None);
         };
-        if from.spot.place.received < received {
-            return Ok(None);
-        }
-        if from.spot.place.received == received && leads(alloc, search, from, step, to)? {
-            return Ok(Some(index));
-        }
+        row = traced.nodes;
+        kept = kept.saturating_add(row.len());
+        trail.push(traced.origins)?;
     }
-    Ok(None)
-}
-
-/// Returns the place in a node's own row of one from which a received message leads to it.
-fn heard_source<A: Allocator + Copy>(
-    alloc: A,
-    search: &Search<'_, '_>,
-    row: &[Node<A>],
-    index: usize,
-    node: &Node<A>,
-) -> Result<Option<usize>, AllocError> {
-    match node.spot.place.received.checked_sub(1) {
-        Some(received) => source(alloc, search, row, index, received, Step::Receive, node),
+    match last_index(exchange, row.as_slice()) {
+        Some(index) => Ok(Some((trail, index))),
         None => Ok(None),
     }
 }
 
-/// Returns the last step to a node, and where the node before it is.
-fn step_before<A: Allocator + Copy>(
-    alloc: A,
-    search: &Search<'_, '_>,
-    rows: &[Vec<Node<A>, A>],
-    seat: Seat,
-) -> Result<Option<(Step, Seat)>, AllocError> {
-    let Some(row) = rows.get(seat.row) else {
-        return Ok(None);
-    };
-    let Some(node) = row.get(seat.index) else {
-        return Ok(None);
-    };
-    if let Some(index) = heard_source(alloc, search, row.as_slice(), seat.index, node)? {
-        let row = seat.row;
-        return Ok(Some((Step::Receive, Seat { row, index })));
-    }
-    let Some(row) = seat.row.checked_sub(1) else {
-        return Ok(None);
-    };
-    let Some(nodes) = rows.get(row) else {
-        return Ok(None);
-    };
-    let received = node.spot.place.received;
-    let from = nodes.as_slice();
-    match source(alloc, search, from, from.len(), received, Step::Pass, node)? {
-        Some(index) => Ok(Some((Step::Pass, Seat { row, index }))),
-        None => Ok(None),
-    }
-}
-
-/// Returns the state in which a walk to the node begins.
-fn start_of<A: Allocator>(rows: &[Vec<Node<A>, A>], seat: Seat) -> Option<State> {
-    let node = rows.get(seat.row)?.get(seat.index)?;
-    Some(node.spot.state)
+/// Returns where the node at this place of that row came from.
+fn origin_at<A: Allocator>(trail: &[Vec<Origin, A>], row: usize, index: usize) -> Option<Origin> {
+    trail.get(row)?.get(index).copied()
 }
 
 /// Returns the steps of a walk to a node where nothing is left and a member has shown all. Returns
-/// `None` if there is none, or if there are more nodes than [`MOST_KEPT`].
+/// `None` if there is none, or if there are more nodes than [`MOST_NODES`].
 pub(crate) fn whole_track<A: Allocator + Copy>(
     alloc: A,
     search: &Search<'_, '_>,
 ) -> Result<Option<Track<A>>, AllocError> {
+    let Some((trail, last)) = trail_to_last(alloc, search)? else {
+        return Ok(None);
+    };
     let exchange = &search.exchange;
-    let Some(rows) = all_rows(alloc, search)? else {
-        return Ok(None);
-    };
-    let Some(mut seat) = last_seat(exchange, rows.as_slice()) else {
-        return Ok(None);
-    };
     let mut steps = Vec::new(alloc);
-    for _ in 0..row_count(exchange).saturating_add(exchange.received.len()) {
-        let Some((step, before)) = step_before(alloc, search, rows.as_slice(), seat)? else {
+    let mut row = row_count(exchange);
+    let mut index = last;
+    for _ in 0..=row_count(exchange).saturating_add(exchange.received.len()) {
+        let Some(origin) = origin_at(trail.as_slice(), row, index) else {
             return Ok(None);
         };
+        let (step, place) = match origin {
+            Origin::Start(start) => {
+                steps.reverse();
+                return Ok(Some(Track { start, steps }));
+            }
+            Origin::Received(place) => (Step::Receive, place),
+            Origin::Passed(place) => (Step::Pass, place),
+        };
+        if step == Step::Pass {
+            row = row.saturating_sub(1);
+        }
+        index = (place as usize).saturating_sub(1);
         steps.push(step)?;
-        seat = before;
     }
-    steps.reverse();
-    match start_of(rows.as_slice(), seat) {
-        Some(start) => Ok(Some(Track { start, steps })),
-        None => Ok(None),
-    }
+    Ok(None)
 }

@@ -25,7 +25,7 @@ use streams::Connection;
 /// these records, and how it ends, the judge says of them; as it ends the session can have ended.
 ///
 /// Returns `None` if no way is whole, or if there are more nodes than
-/// [`MOST_KEPT`](crate::MOST_KEPT), and `AllocError` if memory is refused.
+/// [`MOST_NODES`](crate::MOST_NODES), and `AllocError` if memory is refused.
 pub fn entries_of_whole_way<'a, A: Allocator + Copy>(
     alloc: A,
     config: &Config,
@@ -70,7 +70,7 @@ fn records_of<'a, A: Allocator>(
 /// that is left of the streams. The messages of either direction are framed by its rules.
 ///
 /// Returns `None` if no way is whole, or if there are more nodes than
-/// [`MOST_KEPT`](crate::MOST_KEPT), and `AllocError` if memory is refused.
+/// [`MOST_NODES`](crate::MOST_NODES), and `AllocError` if memory is refused.
 pub fn record_whole_way<'a, A: Allocator + Copy>(
     alloc: A,
     config: &Config,
