@@ -67,5 +67,6 @@ pub use read_alike::judge_options;
 pub use reason::{Reason, put_deed, put_reason, reason_of};
 pub use sending::{sent_deed, sent_form};
 pub use settings::{Settings, is_no_yes};
+pub use states::put_routes_if;
 pub use tally::Tally;
 pub use unshown::{put_passed_over, put_unshown};

@@ -1,3 +1,5 @@
 mod Octets
 mod Texts
+mod Begun
 pub mod Seen
+pub mod Own

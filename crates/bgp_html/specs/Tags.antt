@@ -1,5 +1,6 @@
 -- The markup of a report (the HTML standard, 13.1.2): rows and cells end where the next begins.
 use Rattle.std.specs.Prelude.{◌++◌, ℕ, List, [], codes}
+use Rattle.bgp_html.specs.Page.{about_text, after_name, after_title, page_start}
 use Rattle.bgp_html.specs.declared.tag.Column.TheVariants.{Left, Right}
 use Rattle.bgp_html.specs.declared.tag.Mark.{Mark}
 use Rattle.bgp_html.specs.declared.tag.Mark.TheVariants.{Plain, No, Behind, Possible}
@@ -7,6 +8,9 @@ use Rattle.bgp_html.specs.declared.tag.Tag.{Tag}
 use Rattle.bgp_html.specs.declared.tag.Tag.TheVariants.{Ladder, CaptionEnd, Head, HeadEnd, Row}
 use Rattle.bgp_html.specs.declared.tag.Tag.TheVariants.{Cell, Message, MessageEnd, Change}
 use Rattle.bgp_html.specs.declared.tag.Tag.TheVariants.{ChangeEnd, LadderEnd}
+use Rattle.bgp_html.specs.declared.tag.Tag.TheVariants.{Page, AfterTitle, AfterName, Section}
+use Rattle.bgp_html.specs.declared.tag.Tag.TheVariants.{SectionEnd, Details, DetailsOpen}
+use Rattle.bgp_html.specs.declared.tag.Tag.TheVariants.{SummaryEnd, DetailsEnd}
 use Rattle.bgp_html.specs.declared.tag.What.{What}
 use Rattle.bgp_html.specs.declared.tag.What.TheVariants.{Sent, Received, Changed, Run}
 
@@ -44,8 +48,17 @@ tag_text (Change Right) = codes "<td><td><td><span>"
 tag_text (ChangeEnd Left) = codes "</span><td><td>\n"
 tag_text (ChangeEnd Right) = codes "</span>\n"
 tag_text LadderEnd = codes "</table>\n"
+tag_text Page = page_start
+tag_text AfterTitle = after_title
+tag_text AfterName = after_name
+tag_text Section = codes "<section>\n"
+tag_text SectionEnd = codes "</section>\n"
+tag_text Details = codes "<details><summary>"
+tag_text DetailsOpen = codes "<details open><summary>"
+tag_text SummaryEnd = codes "</summary>\n"
+tag_text DetailsEnd = codes "</details>\n"
 
--- those that end a line
+-- those that end a line, and what a report says at its head
 abbrev pub tag_words : Tag → List ℕ
 tag_words (Ladder column) = []
 tag_words CaptionEnd = []
@@ -58,3 +71,12 @@ tag_words MessageEnd = codes "\n"
 tag_words (Change column) = []
 tag_words (ChangeEnd column) = codes "\n"
 tag_words LadderEnd = codes "\n"
+tag_words Page = codes "\n\n\n\n\n"
+tag_words AfterTitle = codes ": bgp check\n\n"
+tag_words AfterName = codes "\n" ++ (about_text ++ codes "\n")
+tag_words Section = codes "\n"
+tag_words SectionEnd = codes "\n"
+tag_words Details = []
+tag_words DetailsOpen = []
+tag_words SummaryEnd = codes "\n"
+tag_words DetailsEnd = codes "\n"

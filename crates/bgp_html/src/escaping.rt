@@ -8,6 +8,7 @@ use mrt::{Failed, Sink};
 
 /// A sink whose octets are put into the HTML of these lines as text. It never fails: if the sink of
 /// the lines does, they tell of it.
+#[derive(Drop)]
 pub struct Escaping<'a, 'b, W: Sink> {
     lines: &'a mut Lines<'b, W>,
 }

@@ -1,7 +1,7 @@
 //! Laws of text in HTML, each on a function that does nothing.
 
 ghost use Rattle.bgp_html.specs.Escaped.{EscapedTextIsNoMarkup, EscapedTextIsThatTextAlone};
-ghost use Rattle.bgp_html.specs.Reading.{WordsAreSeen};
+ghost use Rattle.bgp_html.specs.Reading.{LinesArePrinted, WordsAreNoTags, WordsAreSeen};
 
 /// Nothing of a text is markup: no octet of it begins or ends a tag, or ends the value of an
 /// attribute.
@@ -18,4 +18,16 @@ pub fn escaped_text_is_that_text_alone()
 /// else.
 pub fn words_are_seen()
     ensures { WordsAreSeen }
+{}
+
+/// Whoever reads what stands in the elements that are called samp gets the lines of what is
+/// written, and nothing else.
+pub fn lines_are_printed()
+    ensures { LinesArePrinted }
+{}
+
+/// Each tag of what is written is one of its markup: no words make a tag or change one, wherever
+/// they come from.
+pub fn words_are_no_tags()
+    ensures { WordsAreNoTags }
 {}

@@ -4,6 +4,7 @@ ghost use Rattle.bgp_text.specs.Lines.{Writes};
 ghost use Rattle.bgp_html.specs.Tags.{mark_class, row_text, tag_text, what_class};
 ghost use Rattle.bgp_html.specs.declared.tag.Tag.TheVariants.{Change, ChangeEnd, Ladder};
 
+use crate::page::{put_after_name, put_after_title, put_page_start};
 use bgp_text::Lines;
 use mrt::Sink;
 
@@ -68,6 +69,24 @@ pub enum Tag {
     ChangeEnd(Column),
     /// The end of the table.
     LadderEnd,
+    /// The start of a report, and of its title.
+    Page,
+    /// The end of the title, the style sheet, and the start of the heading.
+    AfterTitle,
+    /// The end of the heading, and what the answers say.
+    AfterName,
+    /// The start of what is said of a connection, or of an end of it.
+    Section,
+    /// See `Section`.
+    SectionEnd,
+    /// The start of what is shown when it is asked for, and of its summary.
+    Details,
+    /// The same of what is shown until it is hidden.
+    DetailsOpen,
+    /// The end of the summary.
+    SummaryEnd,
+    /// The end of what it sums up.
+    DetailsEnd,
 }
 
 /// Puts the class of a row that shows this: the arrow of a message points to the right (`to`) or to
@@ -157,5 +176,14 @@ pub fn put_tag<W: Sink>(lines: &mut Lines<'_, W>, tag: Tag)
         Tag::Change(column) => put_change(lines, column),
         Tag::ChangeEnd(column) => put_change_end(lines, column),
         Tag::LadderEnd => lines.put(b"</table>\n"),
+        Tag::Page => put_page_start(lines),
+        Tag::AfterTitle => put_after_title(lines),
+        Tag::AfterName => put_after_name(lines),
+        Tag::Section => lines.put(b"<section>\n"),
+        Tag::SectionEnd => lines.put(b"</section>\n"),
+        Tag::Details => lines.put(b"<details><summary>"),
+        Tag::DetailsOpen => lines.put(b"<details open><summary>"),
+        Tag::SummaryEnd => lines.put(b"</summary>\n"),
+        Tag::DetailsEnd => lines.put(b"</details>\n"),
     }
 }

@@ -1,0 +1,107 @@
+-- The head of a report: what it says whatever is reported.
+use Rattle.std.specs.Prelude.{◌++◌, ℕ, List, codes}
+
+-- it may load nothing, nor run anything
+abbrev pub page_start : List ℕ
+page_start =
+    codes "<!DOCTYPE html>\n"
+    ++ (codes "<html lang=\"en\">\n"
+    ++ (codes "<meta charset=\"utf-8\">\n"
+    ++ (codes "<meta http-equiv=\"Content-Security-Policy\""
+    ++ (codes " content=\"default-src 'none'; style-src 'unsafe-inline'\">\n"
+    ++ (codes "<meta name=\"viewport\" content=\"width=device-width, initial-scale=1\">\n"
+    ++ codes "<title>")))))
+
+-- ---- the style sheet, in parts
+
+abbrev pub style_1 : List ℕ
+style_1 =
+    codes ":root{color-scheme:light dark;--ink:#1b1f24;--pale:#59636e;--line:#b4bcc5;\n"
+    ++ (codes "--paper:#fff;--yes:#116329;--no:#a40e26;--due:#7d4e00;--mark:#ffebe9}\n"
+    ++ (codes "@media screen and (prefers-color-scheme:dark){\n"
+    ++ (codes ":root{--ink:#e6edf3;--pale:#9198a1;--line:#56606b;\n"
+    ++ (codes "--paper:#0d1117;--yes:#56d364;--no:#ff7b72;--due:#e3b341;--mark:#3d1a1d}}\n"
+    ++ (codes "body{max-width:76rem;margin:1.5rem auto;padding:0 1rem;\n"
+    ++ (codes "font:1rem/1.5 system-ui,sans-serif;color:var(--ink);background:var(--paper)}\n"
+    ++ codes "h1{font-size:1.4rem;overflow-wrap:anywhere}\n"))))))
+
+abbrev pub style_2 : List ℕ
+style_2 =
+    codes "h2,h3,p{margin:.5rem 0;font-size:1rem;font-weight:400}\n"
+    ++ (codes "h2{margin-top:1.8rem;padding-top:.8rem;border-top:1px solid var(--line)}\n"
+    ++ (codes "h2 samp::first-line{font-weight:700}\n"
+    ++ (codes "h3{margin-top:1.2rem}\n"
+    ++ (codes "h3,.sum{font-weight:700}\n"
+    ++ (codes "pre{margin:0}\n"
+    ++ (codes "samp{display:block;font:.85rem/1.5 ui-monospace,monospace;\n"
+    ++ codes "font-weight:inherit;white-space:pre-wrap;overflow-wrap:anywhere;\n"))))))
+
+abbrev pub style_3 : List ℕ
+style_3 =
+    codes "unicode-bidi:isolate}\n"
+    ++ (codes ".yes{color:var(--yes)}\n"
+    ++ (codes ".no{color:var(--no)}\n"
+    ++ (codes ".due{color:var(--due)}\n"
+    ++ (codes ".not,.about,summary{color:var(--pale)}\n"
+    ++ (codes "samp.yes::before{content:\"\\2713\\a0\"}\n"
+    ++ (codes "samp.no::before{content:\"\\2717\\a0\"}\n"
+    ++ codes "samp.due::before{content:\"\\2026\\a0\"}\n"))))))
+
+abbrev pub style_4 : List ℕ
+style_4 =
+    codes "samp.not::before{content:\"\\2013\\a0\"}\n"
+    ++ (codes "details{margin:.6rem 0;overflow-x:auto}\n"
+    ++ (codes "summary{cursor:pointer;font-size:.85rem}\n"
+    ++ (codes "table{border-collapse:collapse;width:100%;font-size:.85rem;margin:.5rem 0}\n"
+    ++ (codes "caption,th{text-align:left}\n"
+    ++ (codes "th,td{padding:.1rem .4rem;vertical-align:bottom}\n"
+    ++ (codes "td:nth-child(-n+3){width:1%;white-space:nowrap;text-align:right}\n"
+    ++ codes "td:nth-child(4){width:11rem;border-right:2px solid var(--line);\n"))))))
+
+abbrev pub style_5 : List ℕ
+style_5 =
+    codes "text-align:right}\n"
+    ++ (codes "td:nth-child(6){width:11rem;border-left:2px solid var(--line)}\n"
+    ++ (codes "td:nth-child(5){padding:.2rem 0 .3rem}\n"
+    ++ (codes "div{position:relative;border-bottom:1px solid;padding:0 1rem;\n"
+    ++ (codes "overflow-wrap:anywhere;unicode-bidi:isolate}\n"
+    ++ (codes "div::after{content:\"\";position:absolute;bottom:-5px;\n"
+    ++ (codes "border:4px solid transparent}\n"
+    ++ codes ".to div::after{right:0;border-left:8px solid;border-right:0}\n"))))))
+
+abbrev pub style_6 : List ℕ
+style_6 =
+    codes ".fro div::after{left:0;border-right:8px solid;border-left:0}\n"
+    ++ (codes "tr.no{background:var(--mark);font-weight:700}\n"
+    ++ (codes "tr.no td:first-child::before{content:\"\\2717\\a0\"}\n"
+    ++ (codes ".late{opacity:.55}\n"
+    ++ (codes ".could div{border-bottom-style:dashed}\n"
+    ++ (codes ".could{font-style:italic}\n"
+    ++ (codes ".run{color:var(--pale);font-style:italic}\n"
+    ++ codes "@media screen{body{display:flex;flex-direction:column}\n"))))))
+
+abbrev pub style_7 : List ℕ
+style_7 =
+    codes "h1{order:-3}.about{order:-2}.sum{order:-1}}\n"
+    ++ (codes "@media (max-width:45rem){td:nth-child(4),td:nth-child(6){width:1rem}}\n"
+    ++ (codes "@media print{body{max-width:none;margin:0;font-size:.8rem}\n"
+    ++ codes "h2,h3{break-after:avoid}tr{break-inside:avoid}}\n"))
+
+abbrev pub style_text : List ℕ
+style_text = style_1 ++ (style_2 ++ (style_3 ++ (style_4 ++ (style_5 ++ (style_6 ++ (style_7))))))
+
+abbrev pub after_title : List ℕ
+after_title = codes ": bgp check</title>\n<style>\n" ++ (style_text ++ codes "</style>\n<h1>")
+
+-- ---- what the answers say
+
+abbrev pub about_text : List ℕ
+about_text =
+    codes "yes: the standard (RFC 4271 with RFC 7606) allows everything that this "
+    ++ (codes "file shows of the router. no: it does not allow what the router did there, "
+    ++ (codes "and the lines below list all that could have come instead. unfinished: the "
+    ++ (codes "file ends before something that was due, which blames nobody. The lines are "
+    ++ codes "those of bgp check, word for word.")))
+
+abbrev pub after_name : List ℕ
+after_name = codes "</h1>\n<p class=\"about\">" ++ (about_text ++ codes "</p>\n")

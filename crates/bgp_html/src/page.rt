@@ -1,0 +1,158 @@
+//! The head of a report: what it says whatever is reported.
+
+ghost use Rattle.bgp_text.specs.Lines.{Writes};
+ghost use Rattle.bgp_html.specs.Page.{about_text, after_name, after_title, page_start};
+ghost use Rattle.bgp_html.specs.Page.{style_1, style_2, style_3, style_4};
+ghost use Rattle.bgp_html.specs.Page.{style_5, style_6, style_7, style_text};
+
+use bgp_text::Lines;
+use mrt::Sink;
+
+/// Puts what stands before the title.
+pub(crate) fn put_page_start<W: Sink>(lines: &mut Lines<'_, W>)
+    ensures { Writes lines.old lines.new page_start }
+{
+    lines.put(b"<!DOCTYPE html>\n");
+    lines.put(b"<html lang=\"en\">\n");
+    lines.put(b"<meta charset=\"utf-8\">\n");
+    lines.put(b"<meta http-equiv=\"Content-Security-Policy\"");
+    lines.put(b" content=\"default-src 'none'; style-src 'unsafe-inline'\">\n");
+    lines.put(b"<meta name=\"viewport\" content=\"width=device-width, initial-scale=1\">\n");
+    lines.put(b"<title>");
+}
+
+/// Puts a part of the style sheet.
+fn put_style_1<W: Sink>(lines: &mut Lines<'_, W>)
+    ensures { Writes lines.old lines.new style_1 }
+{
+    lines.put(b":root{color-scheme:light dark;--ink:#1b1f24;--pale:#59636e;--line:#b4bcc5;\n");
+    lines.put(b"--paper:#fff;--yes:#116329;--no:#a40e26;--due:#7d4e00;--mark:#ffebe9}\n");
+    lines.put(b"@media screen and (prefers-color-scheme:dark){\n");
+    lines.put(b":root{--ink:#e6edf3;--pale:#9198a1;--line:#56606b;\n");
+    lines.put(b"--paper:#0d1117;--yes:#56d364;--no:#ff7b72;--due:#e3b341;--mark:#3d1a1d}}\n");
+    lines.put(b"body{max-width:76rem;margin:1.5rem auto;padding:0 1rem;\n");
+    lines.put(b"font:1rem/1.5 system-ui,sans-serif;color:var(--ink);background:var(--paper)}\n");
+    lines.put(b"h1{font-size:1.4rem;overflow-wrap:anywhere}\n");
+}
+
+/// Puts a part of the style sheet.
+fn put_style_2<W: Sink>(lines: &mut Lines<'_, W>)
+    ensures { Writes lines.old lines.new style_2 }
+{
+    lines.put(b"h2,h3,p{margin:.5rem 0;font-size:1rem;font-weight:400}\n");
+    lines.put(b"h2{margin-top:1.8rem;padding-top:.8rem;border-top:1px solid var(--line)}\n");
+    lines.put(b"h2 samp::first-line{font-weight:700}\n");
+    lines.put(b"h3{margin-top:1.2rem}\n");
+    lines.put(b"h3,.sum{font-weight:700}\n");
+    lines.put(b"pre{margin:0}\n");
+    lines.put(b"samp{display:block;font:.85rem/1.5 ui-monospace,monospace;\n");
+    lines.put(b"font-weight:inherit;white-space:pre-wrap;overflow-wrap:anywhere;\n");
+}
+
+/// Puts a part of the style sheet.
+fn put_style_3<W: Sink>(lines: &mut Lines<'_, W>)
+    ensures { Writes lines.old lines.new style_3 }
+{
+    lines.put(b"unicode-bidi:isolate}\n");
+    lines.put(b".yes{color:var(--yes)}\n");
+    lines.put(b".no{color:var(--no)}\n");
+    lines.put(b".due{color:var(--due)}\n");
+    lines.put(b".not,.about,summary{color:var(--pale)}\n");
+    lines.put(b"samp.yes::before{content:\"\\2713\\a0\"}\n");
+    lines.put(b"samp.no::before{content:\"\\2717\\a0\"}\n");
+    lines.put(b"samp.due::before{content:\"\\2026\\a0\"}\n");
+}
+
+/// Puts a part of the style sheet.
+fn put_style_4<W: Sink>(lines: &mut Lines<'_, W>)
+    ensures { Writes lines.old lines.new style_4 }
+{
+    lines.put(b"samp.not::before{content:\"\\2013\\a0\"}\n");
+    lines.put(b"details{margin:.6rem 0;overflow-x:auto}\n");
+    lines.put(b"summary{cursor:pointer;font-size:.85rem}\n");
+    lines.put(b"table{border-collapse:collapse;width:100%;font-size:.85rem;margin:.5rem 0}\n");
+    lines.put(b"caption,th{text-align:left}\n");
+    lines.put(b"th,td{padding:.1rem .4rem;vertical-align:bottom}\n");
+    lines.put(b"td:nth-child(-n+3){width:1%;white-space:nowrap;text-align:right}\n");
+    lines.put(b"td:nth-child(4){width:11rem;border-right:2px solid var(--line);\n");
+}
+
+/// Puts a part of the style sheet.
+fn put_style_5<W: Sink>(lines: &mut Lines<'_, W>)
+    ensures { Writes lines.old lines.new style_5 }
+{
+    lines.put(b"text-align:right}\n");
+    lines.put(b"td:nth-child(6){width:11rem;border-left:2px solid var(--line)}\n");
+    lines.put(b"td:nth-child(5){padding:.2rem 0 .3rem}\n");
+    lines.put(b"div{position:relative;border-bottom:1px solid;padding:0 1rem;\n");
+    lines.put(b"overflow-wrap:anywhere;unicode-bidi:isolate}\n");
+    lines.put(b"div::after{content:\"\";position:absolute;bottom:-5px;\n");
+    lines.put(b"border:4px solid transparent}\n");
+    lines.put(b".to div::after{right:0;border-left:8px solid;border-right:0}\n");
+}
+
+/// Puts a part of the style sheet.
+fn put_style_6<W: Sink>(lines: &mut Lines<'_, W>)
+    ensures { Writes lines.old lines.new style_6 }
+{
+    lines.put(b".fro div::after{left:0;border-right:8px solid;border-left:0}\n");
+    lines.put(b"tr.no{background:var(--mark);font-weight:700}\n");
+    lines.put(b"tr.no td:first-child::before{content:\"\\2717\\a0\"}\n");
+    lines.put(b".late{opacity:.55}\n");
+    lines.put(b".could div{border-bottom-style:dashed}\n");
+    lines.put(b".could{font-style:italic}\n");
+    lines.put(b".run{color:var(--pale);font-style:italic}\n");
+    lines.put(b"@media screen{body{display:flex;flex-direction:column}\n");
+}
+
+/// Puts a part of the style sheet.
+fn put_style_7<W: Sink>(lines: &mut Lines<'_, W>)
+    ensures { Writes lines.old lines.new style_7 }
+{
+    lines.put(b"h1{order:-3}.about{order:-2}.sum{order:-1}}\n");
+    lines.put(b"@media (max-width:45rem){td:nth-child(4),td:nth-child(6){width:1rem}}\n");
+    lines.put(b"@media print{body{max-width:none;margin:0;font-size:.8rem}\n");
+    lines.put(b"h2,h3{break-after:avoid}tr{break-inside:avoid}}\n");
+}
+
+/// Puts the style sheet.
+fn put_style<W: Sink>(lines: &mut Lines<'_, W>)
+    ensures { Writes lines.old lines.new style_text }
+{
+    put_style_1(lines);
+    put_style_2(lines);
+    put_style_3(lines);
+    put_style_4(lines);
+    put_style_5(lines);
+    put_style_6(lines);
+    put_style_7(lines);
+}
+
+/// Puts what stands between the title and the heading.
+pub(crate) fn put_after_title<W: Sink>(lines: &mut Lines<'_, W>)
+    ensures { Writes lines.old lines.new after_title }
+{
+    lines.put(b": bgp check</title>\n<style>\n");
+    put_style(lines);
+    lines.put(b"</style>\n<h1>");
+}
+
+/// Puts what the answers say.
+fn put_about<W: Sink>(lines: &mut Lines<'_, W>)
+    ensures { Writes lines.old lines.new about_text }
+{
+    lines.put(b"yes: the standard (RFC 4271 with RFC 7606) allows everything that this ");
+    lines.put(b"file shows of the router. no: it does not allow what the router did there, ");
+    lines.put(b"and the lines below list all that could have come instead. unfinished: the ");
+    lines.put(b"file ends before something that was due, which blames nobody. The lines are ");
+    lines.put(b"those of bgp check, word for word.");
+}
+
+/// Puts what stands between the heading and the first connection.
+pub(crate) fn put_after_name<W: Sink>(lines: &mut Lines<'_, W>)
+    ensures { Writes lines.old lines.new after_name }
+{
+    lines.put(b"</h1>\n<p class=\"about\">");
+    put_about(lines);
+    lines.put(b"</p>\n");
+}
