@@ -22,10 +22,10 @@ use Rattle.bgp_why.specs.declared.place.Place.{Place}
 use Rattle.bgp_json.specs.Object.{typed}
 use Rattle.bgp_json.specs.Others.{capture_json}
 use Rattle.bgp_json_values.specs.Objects.{number_of}
-use Rattle.bgp_json_verdicts.specs.At.{place_members}
 use Rattle.bgp_json_verdicts.specs.Lines.{ReasonValue, reason_text}
 use Rattle.bgp_json_verdicts.specs.Objects.{text_json}
 use Rattle.bgp_json_check.specs.Members.{deed_members, direction_word, end_members}
+use Rattle.bgp_json_check.specs.Members.{known_members}
 use Rattle.bgp_json_check.specs.Objects.{ended_json, judged_json, reason_json, yes_json}
 use Rattle.bgp_json_check.specs.declared.member.JudgedEnd.{JudgedEnd}
 use Rattle.bgp_ended.specs.EndedLine.{ended_stretch_line}
@@ -239,10 +239,10 @@ value_objects judged (IsYes routes name peer reached ends) =
     reached.before
 value_objects judged (IsNo place name deed) =
     answer_json judged (codes "no")
-    (place_members place ++ (end_members (judged_end name) ++ deed_members deed)) ∷ []
+    (known_members place ++ (end_members (judged_end name) ++ deed_members deed)) ∷ []
 value_objects judged (IsUnfinished place name) =
     answer_json judged (codes "unfinished")
-    (place_members place ++ end_members (judged_end name)) ∷ []
+    (known_members place ++ end_members (judged_end name)) ∷ []
 value_objects judged (IsUnjudged name why) =
     unjudged_json judged (judged_end name) (why_text why) ∷ []
 value_objects judged (IsUnnamed end part why) =
@@ -261,7 +261,7 @@ value_objects judged (IsNotRead direction at count is_refresh) =
     ∷ (codes "at", number_of at) ∷ (codes "octets", number_of count) ∷ []))
 value_objects judged (InMadeOrder first deed place) =
     judged_json (codes "in_made_order") judged
-    (place_members place ++ (codes "deed", text_json deed) ∷ []) ∷ []
+    (known_members place ++ (codes "deed", text_json deed) ∷ []) ∷ []
 value_objects judged (OneOrder count) =
     judged_json (codes "one_order") judged ((codes "delayed", number_of count) ∷ []) ∷ []
 value_objects judged AnotherOrder = judged_json (codes "another_order") judged [] ∷ []

@@ -1,5 +1,5 @@
 -- The objects of lines nest less deep than a reader of JSON goes.
-use Rattle.std.proofs.Common.{◌≤◌, ◌++◌, ℕ, List, [], ◌∷◌, Option, None, Some, arith, codes}
+use Rattle.std.proofs.Common.{◌≤◌, ◌++◌, ℕ, suc, List, [], ◌∷◌, Option, None, Some, arith, codes}
 use Rattle.json.specs.Json.{Json, max_depth, string}
 use Rattle.json.specs.Tree.{depth}
 use Rattle.bgp_path.specs.Path.{PathValue}
@@ -10,18 +10,19 @@ use Rattle.bgp_check.specs.declared.peer_as.PeerAs.TheVariants as peers
 use Rattle.bgp_json.specs.Object.{typed}
 use Rattle.bgp_json_values.specs.Objects.{number_of}
 use Rattle.bgp_json_values.specs.ErrorJson.{error_members}
-use Rattle.bgp_json_values.proofs.Depths.{AreWithin, array_depth, both_within, error_within}
-use Rattle.bgp_json_verdicts.specs.At.{place_members}
+use Rattle.bgp_json_values.proofs.Depths.{AreWithin, array_depth, both_within, error_within, time_within}
+use Rattle.bgp_json_values.specs.Times.{time_members}
+use Rattle.bgp_json_verdicts.specs.At.{number_members as some_number, place_members}
 use Rattle.bgp_ended.specs.Values.{HowValue, Notified, Closed, Fallen}
 use Rattle.bgp_list.specs.EndedJson.{how_members}
 use Rattle.bgp_why.specs.declared.place.Place.{Place}
 use Rattle.bgp_json_verdicts.specs.Lines.{ReasonValue}
 use Rattle.bgp_json_verdicts.specs.Objects.{family_texts, reason_members, reason_type}
 use Rattle.bgp_json_verdicts.specs.RouteJson.{route_members}
-use Rattle.bgp_json_verdicts.proofs.Shallow.{place_within, reason_within, route_within, shallow}
+use Rattle.bgp_json_verdicts.proofs.Shallow.{number_within as packet_within, place_within, reason_within, route_within, shallow}
 use Rattle.bgp_list.specs.JsonMembers.{endpoint_members, number_members}
 use Rattle.bgp_why.specs.declared.endpoint.Endpoint.{Endpoint}
-use Rattle.bgp_json_check.specs.Members.{all_members, before_members, deed_members, disabled_members, end_members, member_of, part_members, peer_members}
+use Rattle.bgp_json_check.specs.Members.{all_members, before_members, deed_members, disabled_members, end_members, known_members, member_of, part_members, peer_members, record_members}
 use Rattle.bgp_json_check.specs.Objects.{ended_json, judged_json, reason_json, route_json}
 use Rattle.bgp_json_check.specs.declared.member.JudgedEnd.{JudgedEnd}
 use Rattle.bgp_json_check.specs.declared.member.Member.{Member}
@@ -35,6 +36,17 @@ number_within key (Some number) = (omega arith, tt)
 
 endpoint_within : (key port_key : List ℕ) (end : Endpoint) → AreWithin 6 (endpoint_members key port_key end)
 endpoint_within key port_key end = (omega arith, number_within port_key end.port)
+
+record_within : (number : ℕ) → AreWithin 6 (record_members number)
+record_within 0 = tt
+record_within (suc n) = (omega arith, tt)
+
+known_within : (place : Place) → AreWithin 6 (known_members place)
+known_within place =
+    let packet = some_number (codes "packet") place.packet in
+    let time = time_members place.second place.micro in
+    both_within 6 (record_members place.number) (packet ++ time) (record_within place.number)
+    (both_within 6 packet time (packet_within (codes "packet") place.packet) (time_within 6 place.second place.micro))
 
 part_within : (part : Option (ℕ × ℕ)) → AreWithin 6 (part_members part)
 part_within None = tt
@@ -65,7 +77,7 @@ member_within : (m : Member) → AreWithin 6 (member_of m)
 member_within (members.Number key number) = (omega arith, tt)
 member_within (members.Word key word) = (omega arith, tt)
 member_within (members.Text key text) = (omega arith, tt)
-member_within (members.Place place) = place_within place
+member_within (members.Place place) = known_within place
 member_within (members.End name) = end_within name
 member_within (members.Peer peer) = peer_within peer
 member_within (members.Deed deed) = deed_within deed.now

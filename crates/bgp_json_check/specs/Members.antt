@@ -1,5 +1,6 @@
 -- The members of objects.
-use Rattle.std.specs.Prelude.{◌++◌, ℕ, List, [], ◌∷◌, Option, None, Some, codes}
+use Rattle.std.specs.Prelude.{◌++◌, ℕ, List, [], ◌∷◌, Option, None, Some, codes, nat_lt}
+use Rattle.std.specs.Prelude.{if◌then◌else◌}
 use Rattle.json.specs.Json.{Json, string}
 use Rattle.bgp_open.specs.declared.families.Families.{Families}
 use Rattle.bgp_names.specs.States.{state_name}
@@ -9,11 +10,24 @@ use Rattle.bgp_check.specs.declared.peer_as.PeerAs.{PeerAs}
 use Rattle.bgp_check.specs.declared.peer_as.PeerAs.TheVariants as peers
 use Rattle.bgp_json_check.specs.declared.member.JudgedEnd.{JudgedEnd}
 use Rattle.bgp_json_values.specs.Objects.{array_of, number_of}
-use Rattle.bgp_json_verdicts.specs.At.{place_members}
+use Rattle.bgp_json_values.specs.Times.{time_members}
+use Rattle.bgp_json_verdicts.specs.At.{number_members as some_number}
 use Rattle.bgp_json_verdicts.specs.Objects.{family_texts, state_member, text_json}
 use Rattle.bgp_list.specs.JsonMembers.{endpoint_members, number_members, pair_members}
+use Rattle.bgp_why.specs.declared.place.Place.{Place}
 use Rattle.bgp_json_check.specs.declared.member.Member.{Member}
 use Rattle.bgp_json_check.specs.declared.member.Member.TheVariants as members
+
+-- the number of a record, which is counted from 1: 0 stands for none
+abbrev pub record_members : ℕ → List (List ℕ × Json)
+record_members number =
+    if nat_lt 0 number then (codes "record", number_of number) ∷ [] else []
+
+-- a record: its number, if it has one, the packet that shows it, and its time
+abbrev pub known_members : Place → List (List ℕ × Json)
+known_members place =
+    record_members place.number
+    ++ (some_number (codes "packet") place.packet ++ time_members place.second place.micro)
 
 -- which records these are, if that is said: the numbers of the first and of the last
 abbrev pub part_members : Option (ℕ × ℕ) → List (List ℕ × Json)
@@ -61,7 +75,7 @@ abbrev pub member_of : Member → List (List ℕ × Json)
 member_of (members.Number key number) = (key.now, number_of number) ∷ []
 member_of (members.Word key word) = (key.now, string word.now) ∷ []
 member_of (members.Text key text) = (key.now, text_json text.now) ∷ []
-member_of (members.Place place) = place_members place
+member_of (members.Place place) = known_members place
 member_of (members.End name) = end_members name
 member_of (members.Peer peer) = peer_members peer
 member_of (members.Deed deed) = deed_members deed.now

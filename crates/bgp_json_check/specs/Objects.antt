@@ -19,8 +19,8 @@ use Rattle.bgp_list.specs.JsonMembers.{endpoint_members}
 use Rattle.bgp_why.specs.declared.endpoint.Endpoint.{Endpoint}
 use Rattle.bgp_why.specs.declared.place.Place.{Place}
 use Rattle.bgp_json_check.specs.Members.{before_members, deed_members, direction_word}
-use Rattle.bgp_json_check.specs.Members.{disabled_members, end_members, peer_members}
-use Rattle.bgp_json_check.specs.Members.{reached_members}
+use Rattle.bgp_json_check.specs.Members.{disabled_members, end_members, known_members}
+use Rattle.bgp_json_check.specs.Members.{peer_members, reached_members}
 use Rattle.bgp_json_check.specs.declared.member.JudgedEnd.{JudgedEnd}
 use Rattle.bgp_json_check.specs.declared.objects.CheckDetail.{CheckDetail}
 use Rattle.bgp_json_check.specs.declared.objects.CheckDetail.TheVariants as details
@@ -46,9 +46,9 @@ abbrev pub verdict_members : CheckVerdict → List (List ℕ × Json)
 verdict_members (verdicts.Yes end peer highest before) = yes_members end peer highest before.now
 verdict_members (verdicts.No place end deed) =
     (codes "answer", string (codes "no"))
-    ∷ (place_members place ++ (end_members end ++ deed_members deed.now))
+    ∷ (known_members place ++ (end_members end ++ deed_members deed.now))
 verdict_members (verdicts.Unfinished place end) =
-    (codes "answer", string (codes "unfinished")) ∷ (place_members place ++ end_members end)
+    (codes "answer", string (codes "unfinished")) ∷ (known_members place ++ end_members end)
 verdict_members (verdicts.NotJudged end why) =
     (codes "answer", string (codes "not judged"))
     ∷ (end_members end ++ (codes "why", string why.now) ∷ [])
@@ -99,7 +99,7 @@ detail_members (details.NotRead direction behind at count) =
     (codes "direction", string (direction_word direction)) ∷ (codes "behind", string behind.now)
     ∷ (codes "at", number_of at) ∷ (codes "octets", number_of count) ∷ []
 detail_members (details.InMadeOrder place deed) =
-    place_members place ++ (codes "deed", text_json deed.now) ∷ []
+    known_members place ++ (codes "deed", text_json deed.now) ∷ []
 detail_members (details.OneOrder delayed) = (codes "delayed", number_of delayed) ∷ []
 detail_members details.AnotherOrder = []
 detail_members details.AllOrders = []

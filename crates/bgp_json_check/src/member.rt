@@ -5,13 +5,14 @@ ghost use Rattle.bgp_json_values.specs.Adding.{Adds};
 ghost use Rattle.bgp_json_values.specs.Objects.{members_tokens, number_of, values_tokens};
 ghost use Rattle.bgp_json_check.specs.Members.{all_members, before_members, deed_members};
 ghost use Rattle.bgp_json_check.specs.Members.{direction_word, disabled_members, end_members};
-ghost use Rattle.bgp_json_check.specs.Members.{member_of, part_members, peer_members};
-ghost use Rattle.bgp_json_check.specs.Members.{reached_members, some_before_members};
+ghost use Rattle.bgp_json_check.specs.Members.{known_members, member_of, part_members};
+ghost use Rattle.bgp_json_check.specs.Members.{peer_members, reached_members, record_members};
+ghost use Rattle.bgp_json_check.specs.Members.{some_before_members};
 
 use bgp_check::PeerAs;
 use bgp_json::put_text;
-use bgp_json_values::{put_name, put_number};
-use bgp_json_verdicts::{put_families, put_octets_text, put_place, put_state};
+use bgp_json_values::{put_name, put_number, put_time};
+use bgp_json_verdicts::{put_families, put_number_if, put_octets_text, put_state};
 use bgp_list::{put_as_number, put_end_members, put_pair};
 use bgp_machine::Fsm;
 use bgp_names::name_of_state;
@@ -41,7 +42,7 @@ pub(crate) enum Member<'a> {
     Word(&'static str, &'static str),
     /// A text under this key. What isn't UTF-8 in it is U+FFFD.
     Text(&'static str, &'a [u8]),
-    /// Where a record stands, and its time.
+    /// A record: its number, if that isn't 0, the packet that shows it, and its time.
     Place(Place),
     /// An end: its address, and its port, its AS number and which records these are, as far as they
     /// are told.
@@ -60,6 +61,26 @@ pub(crate) enum Member<'a> {
     Disabled(Families),
     /// How many routes the ends before had, if there were some.
     Before(&'a [usize]),
+}
+
+/// Puts the number of a record, if it has one.
+fn put_record<A: Allocator>(writer: &mut Writer<A>, number: u64) -> Result<(), AllocError>
+    ensures { Adds result writer.old writer.new (members_tokens (record_members number)) }
+{
+    if 0 < number {
+        put_number(writer, "record", number)
+    } else {
+        Ok(())
+    }
+}
+
+/// Puts a record: its number, if it has one, the packet that shows it, and its time.
+fn put_known<A: Allocator>(writer: &mut Writer<A>, place: &Place) -> Result<(), AllocError>
+    ensures { Adds result writer.old writer.new (members_tokens (known_members place.now)) }
+{
+    put_record(writer, place.number)?;
+    put_number_if(writer, "packet", place.packet)?;
+    put_time(writer, place.second, place.micro)
 }
 
 /// Puts which records these are, if that is said.
@@ -196,7 +217,7 @@ fn put_member<A: Allocator + Copy>(
         Member::Number(key, number) => put_number(writer, key, *number),
         Member::Word(key, word) => put_text(writer, key, word),
         Member::Text(key, text) => put_octets_text(writer, alloc, key, text),
-        Member::Place(place) => put_place(writer, place),
+        Member::Place(place) => put_known(writer, place),
         Member::End(name) => put_end(writer, alloc, name),
         Member::Peer(peer) => put_peer(writer, *peer),
         Member::Deed(deed) => put_deed(writer, alloc, deed),

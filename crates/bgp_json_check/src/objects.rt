@@ -13,7 +13,8 @@ pub enum CheckVerdict<'a> {
     /// A yes: the AS number that its peer has, or hasn't; the number of the highest state that its
     /// records tell (RFC 6396, 4.4.1); and how many routes the ends before had, if there were some.
     Yes(JudgedEnd, PeerAs, u16, &'a [usize]),
-    /// A no: where it stands, and what was done there, if that can be said.
+    /// A no: where it stands, and what was done there, if that can be said. The number of the record
+    /// is 0, if it has none.
     No(Place, JudgedEnd, &'a [u8]),
     /// An unfinished: where the last record stands.
     Unfinished(Place, JudgedEnd),
