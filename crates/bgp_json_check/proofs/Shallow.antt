@@ -1,5 +1,6 @@
 -- The objects of lines nest less deep than a reader of JSON goes.
-use Rattle.std.proofs.Common.{◌≤◌, ◌++◌, ℕ, suc, List, [], ◌∷◌, Option, None, Some, arith, codes}
+use Rattle.std.proofs.Common.{◌≤◌, ◌++◌, ℕ, Bool, true, false, List, [], ◌∷◌, Option, None, Some, arith, codes, if◌then◌else◌}
+use Rattle.std.specs.Prelude.{nat_lt}
 use Rattle.json.specs.Json.{Json, max_depth, string}
 use Rattle.json.specs.Tree.{depth}
 use Rattle.bgp_path.specs.Path.{PathValue}
@@ -37,9 +38,12 @@ number_within key (Some number) = (omega arith, tt)
 endpoint_within : (key port_key : List ℕ) (end : Endpoint) → AreWithin 6 (endpoint_members key port_key end)
 endpoint_within key port_key end = (omega arith, number_within port_key end.port)
 
+if_within : (is_so : Bool) (members : List (List ℕ × Json)) → AreWithin 6 members → AreWithin 6 (if is_so then members else [])
+if_within true members each = each
+if_within false members each = tt
+
 record_within : (number : ℕ) → AreWithin 6 (record_members number)
-record_within 0 = tt
-record_within (suc n) = (omega arith, tt)
+record_within number = if_within (nat_lt 0 number) ((codes "record", number_of number) ∷ []) (omega arith, tt)
 
 known_within : (place : Place) → AreWithin 6 (known_members place)
 known_within place =
