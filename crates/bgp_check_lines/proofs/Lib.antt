@@ -4,3 +4,4 @@ pub mod Puts
 pub mod Printed
 mod Texts
 pub mod SameSink
+mod Reason

@@ -2,3 +2,4 @@ pub mod Values
 pub mod Teller
 pub mod Lines
 pub mod Printed
+pub mod Reason

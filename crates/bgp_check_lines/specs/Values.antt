@@ -2,6 +2,7 @@
 -- objects.
 use Rattle.std.specs.Prelude.{◌++◌, ◌+◌, ℕ, Bool, List, [], ◌∷◌, Option, None, Some}
 use Rattle.std.specs.Prelude.{codes, if◌then◌else◌, nat_lt}
+use Rattle.std.specs.List.{flat_map}
 use Rattle.std.specs.Fmt.{decimal}
 use Rattle.json.specs.Json.{Json, string}
 use Rattle.mrt.specs.declared.fault.CaptureFault.{CaptureFault}
@@ -22,11 +23,12 @@ use Rattle.bgp_why.specs.declared.place.Place.{Place}
 use Rattle.bgp_json.specs.Object.{typed}
 use Rattle.bgp_json.specs.Others.{capture_json}
 use Rattle.bgp_json_values.specs.Objects.{number_of}
-use Rattle.bgp_json_verdicts.specs.Lines.{ReasonValue, reason_text}
+use Rattle.bgp_json_verdicts.specs.Lines as verdicts
+use Rattle.bgp_json_verdicts.specs.Objects as objects
 use Rattle.bgp_json_verdicts.specs.Objects.{text_json}
 use Rattle.bgp_json_check.specs.Members.{deed_members, direction_word, end_members}
 use Rattle.bgp_json_check.specs.Members.{known_members}
-use Rattle.bgp_json_check.specs.Objects.{ended_json, judged_json, reason_json, yes_json}
+use Rattle.bgp_json_check.specs.Objects.{ended_json, judged_json, yes_json}
 use Rattle.bgp_json_check.specs.declared.member.JudgedEnd.{JudgedEnd}
 use Rattle.bgp_ended.specs.EndedLine.{ended_stretch_line}
 use Rattle.bgp_ended.specs.Stretch.{EndedStretchValue}
@@ -56,9 +58,8 @@ pub data CheckValue : Type 0 where
   -- an end that isn't judged; and one without an AS number, for another reason
   IsUnjudged : EndName → NotJudged → CheckValue
   IsUnnamed : Endpoint → Option (ℕ × ℕ) → List ℕ → CheckValue
-  -- a line of a reason; or all its lines in one text
-  Says : ReasonValue → CheckValue
-  SaysText : List ℕ → CheckValue
+  -- the lines of a reason
+  Explains : List verdicts.LineValue → CheckValue
   -- so many ROUTE-REFRESH messages of a direction aren't judged, if some aren't
   PassesOver : Direction → ℕ → CheckValue
   -- so many octets of a direction are of an incomplete last message, if some are; or aren't read,
@@ -155,8 +156,7 @@ value_text (IsNo place name deed) = no_line place name deed
 value_text (IsUnfinished place name) = unfinished_line place name
 value_text (IsUnjudged name why) = not_judged_line name why
 value_text (IsUnnamed end part why) = unnamed_line end part why
-value_text (Says reason) = reason_text reason
-value_text (SaysText text) = text
+value_text (Explains lines) = flat_map verdicts.line_text lines
 value_text (PassesOver direction count) = passed_note (direction_word direction) count
 value_text (IsIncomplete direction count) = short_note (direction_word direction) count
 value_text (IsNotRead direction at count is_refresh) =
@@ -213,12 +213,6 @@ abbrev pub place_of : ℕ → Option ℕ → EndedStretchValue → Place
 place_of number micro ended =
     record { number = number; packet = None; second = ended.second; micro = micro }
 
--- the lines of a reason, if there are some
-abbrev pub reason_objects : ℕ → List ℕ → List Json
-reason_objects judged [] = []
-reason_objects judged (octet ∷ text) =
-    judged_json (codes "reason") judged ((codes "text", text_json (octet ∷ text)) ∷ []) ∷ []
-
 -- an object, if there is something to tell
 abbrev pub if_some : ℕ → Json → List Json
 if_some count json = if nat_lt 0 count then json ∷ [] else []
@@ -247,8 +241,7 @@ value_objects judged (IsUnjudged name why) =
     unjudged_json judged (judged_end name) (why_text why) ∷ []
 value_objects judged (IsUnnamed end part why) =
     unjudged_json judged (unnamed_end end part) why ∷ []
-value_objects judged (Says reason) = reason_json judged reason ∷ []
-value_objects judged (SaysText text) = reason_objects judged text
+value_objects judged (Explains lines) = objects.objects_from (objects.counts_behind judged) lines
 value_objects judged (PassesOver direction count) =
     if_some count (judged_json (codes "refresh_not_judged") judged
     (direction_member direction ∷ (codes "count", number_of count) ∷ []))

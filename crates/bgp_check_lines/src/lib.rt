@@ -18,6 +18,7 @@
 mod check_lines;
 mod listed;
 mod notes;
+mod reason;
 mod teller;
 mod totals;
 mod verdicts;
@@ -29,8 +30,9 @@ pub use listed::{
 };
 pub use notes::{
     put_all_orders, put_another_order, put_ended, put_in_made_order, put_late, put_one_order,
-    put_open, put_passed_over, put_reason, put_repeat, put_unshown,
+    put_open, put_passed_over, put_repeat, put_unshown,
 };
+pub use reason::put_reason;
 pub use teller::LineTeller;
 pub use totals::{put_cut_short, put_last, put_no_record, put_nothing_at};
 pub use verdicts::{put_no, put_not_judged, put_unfinished, put_unnamed, put_yes};

@@ -7,18 +7,17 @@ ghost use Rattle.bgp_check_text.specs.JudgeLine.{command_text, judge_line};
 ghost use Rattle.bgp_values.specs.declared.opens.Direction.TheVariants.{Received, Sent};
 ghost use Rattle.bgp_ended.specs.EndedLine.{ended_stretch_line};
 ghost use Rattle.bgp_ended.specs.Stretch.{ended_stretch_value};
-ghost use Rattle.bgp_check_text.specs.Reason.{lines_text};
 ghost use Rattle.bgp_check_text.specs.Unshown.{end_name, passed_notes, unshown_notes};
 ghost use Rattle.bgp_check_lines.specs.Lines.{PutsLines};
 ghost use Rattle.bgp_check_lines.specs.Teller.{TellsValues};
 ghost use Rattle.bgp_check_lines.specs.Values.{IsIncomplete, IsNotRead, PassesOver};
 ghost use Rattle.bgp_check_lines.specs.Values.{all_orders_line, another_order_line, delayed_text};
 ghost use Rattle.bgp_check_lines.specs.Values.{in_made_order_line, late_line, later_answer};
-ghost use Rattle.bgp_check_lines.specs.Values.{SaysText, one_order_line, open_line, rest_value};
+ghost use Rattle.bgp_check_lines.specs.Values.{one_order_line, open_line, rest_value};
 
 use crate::check_lines::CheckLines;
 use crate::teller::LineTeller;
-use bgp_check_text::{JudgeOptions, Reason, put_command, put_judge_line};
+use bgp_check_text::{JudgeOptions, put_command, put_judge_line};
 use bgp_clock::put_short;
 use bgp_ended::{EndedStretch, put_ended_stretch};
 use bgp_json_check::{CheckDetail, CheckTeller};
@@ -193,36 +192,6 @@ pub fn put_unshown<A: Allocator + Copy, W: Sink>(
         LineTeller::Text => bgp_check_text::put_unshown(&mut lines.lines, received, sent),
         LineTeller::Json(teller) => {
             tell_unshown(teller, &mut lines.lines, lines.alloc, received, sent);
-        }
-    }
-}
-
-/// Tells the lines of a reason, if there are some.
-fn tell_reason<A: Allocator + Copy, W: Sink>(
-    teller: &mut CheckTeller,
-    lines: &mut Lines<'_, W>,
-    alloc: A,
-    text: &[u8],
-)
-    ensures { TellsValues teller.old teller.new lines.old lines.new (SaysText text.now ∷ []) }
-{
-    if text.is_empty() {
-        return;
-    }
-    teller.put_detail(lines, alloc, &CheckDetail::Reason(text));
-}
-
-/// Puts the lines of a reason.
-pub fn put_reason<A: Allocator + Copy, B: Allocator + Copy, W: Sink>(
-    lines: &mut CheckLines<'_, A, W>,
-    reason: &Reason<B>,
-)
-    ensures { PutsLines lines.old lines.new (lines_text reason.now) }
-{
-    match &mut lines.teller {
-        LineTeller::Text => bgp_check_text::put_reason(&mut lines.lines, reason),
-        LineTeller::Json(teller) => {
-            tell_reason(teller, &mut lines.lines, lines.alloc, reason.lines());
         }
     }
 }

@@ -17,3 +17,4 @@ pub mod SomeEnd
 mod ErrorTexts
 mod ErrorSets
 mod OneItem
+mod Captured

@@ -13,6 +13,7 @@ use Rattle.bgp_parts.specs.Opens.{HasOwnOpen}
 use Rattle.bgp_check.specs.declared.own_fault.OwnFault.{OwnFault}
 use Rattle.bgp_check.specs.declared.peer_as.PeerAs.{PeerAs}
 use Rattle.bgp_check.specs.declared.peer_as.PeerAs.TheVariants.{Any, Is, OtherThan}
+use Rattle.bgp_explain.specs.KeptLines.{kept_text}
 use Rattle.bgp_explain.specs.Records.{SaysDeed, SaysLines}
 use Rattle.bgp_explain.specs.declared.places.Places.{Places}
 use Rattle.bgp_explain.specs.declared.places.Places.TheVariants.{Counted, Numbered, Shown}
@@ -139,4 +140,4 @@ abbrev pub deed_text : {X : Type 0} → Reason X → List ℕ
 deed_text reason = reason.deed.items
 
 abbrev pub lines_text : {X : Type 0} → Reason X → List ℕ
-lines_text reason = reason.lines.items
+lines_text reason = kept_text reason.lines

@@ -7,19 +7,18 @@ ghost use Rattle.bgp_prefix.specs.Shown.{ShownRecord};
 ghost use Rattle.bgp_judge.specs.Verdict.{HasVerdict, VerdictValue, verdict_value};
 ghost use Rattle.bgp_explain.specs.Details.{AreDetailsOf};
 ghost use Rattle.bgp_explain.specs.Places.{places_of};
-ghost use Rattle.bgp_explain.specs.Records.{AreExplained, SaysDeed, SaysLines};
+ghost use Rattle.bgp_explain.specs.Records.{AreExplained, SaysDeed};
 ghost use Rattle.bgp_explain.specs.Text.{CanBePutOf};
 ghost use Rattle.bgp_check_text.specs.Reason.{IsSaid, SaysSo, deed_text, lines_text};
 ghost use Rattle.bgp_check_text.specs.Shown.{CanBeTold, session_at};
 
 use crate::reason::Reason;
 use crate::shown::{can_be_told, session_at};
-use bgp_explain::{Details, ExplainedRecords, Places, explain_records, put_deed_of, put_lines_of};
+use bgp_explain::{Details, ExplainedRecords, Places, explain_records, keep_lines_of, put_deed_of};
 use bgp_judge::{Tracker, records_have_just_one_verdict};
 use bgp_open::Config;
 use bgp_prefix::Session;
 use bgp_text::Lines;
-use bgp_verdict_lines::{VerdictForm, VerdictLines};
 use bgp_why::{Endpoint, Style};
 use bgp_wire::Limit;
 use mrt::{Failed, MemSink, Record, Sink};
@@ -73,42 +72,6 @@ fn write_deed<W: Sink, A: Allocator + Copy>(
     handed_over
 }
 
-/// Writes the lines that say why a verdict is as it is.
-fn write_lines<W: Sink, A: Allocator + Copy>(
-    sink: &mut W,
-    alloc: A,
-    config: &Config,
-    telling: &Telling<'_>,
-    session: &Session,
-    explained: &ExplainedRecords<A>,
-    details: &Details<'_, A>,
-) -> Result<(), Failed>
-    requires failures { W.failures sink.old < u64.MAX }
-    requires can { CanBePutOf session.now explained.now.reason }
-    requires details { AreDetailsOf config.now explained.now.reason (Some details.now) }
-    ensures { OnOk result ((records : List ShownRecord)
-        → AreExplained config.now records explained.now → (text : List ℕ)
-        × SaysLines config.now telling.now.style session.now telling.now.another
-        (places_of telling.now.places) records (verdict_value explained.now.verdict) text
-        × W.takes sink.old sink.new text) }
-{
-    let mut lines = VerdictLines::new(VerdictForm::Text, alloc, sink);
-    put_lines_of(
-        &mut lines,
-        config,
-        &telling.style,
-        session,
-        telling.another,
-        telling.places,
-        explained,
-        details,
-    );
-    let handed_over = lines.hand_over();
-    // No effect: it ends the loan of the sink.
-    lines.into_sink();
-    handed_over
-}
-
 /// Returns what the impossible record of a no shows was done. Returns `AllocError` if memory runs
 /// out.
 fn deed_of<A: Allocator + Copy>(
@@ -117,43 +80,18 @@ fn deed_of<A: Allocator + Copy>(
     telling: &Telling<'_>,
     session: &Session,
     explained: &ExplainedRecords<A>,
-    details: &Details<'_, A>,
 ) -> Result<Vec<u8, A>, AllocError>
-    requires can { CanBePutOf session.now explained.now.reason }
-    requires details { AreDetailsOf config.now explained.now.reason (Some details.now) }
+    requires { CanBePutOf session.now explained.now.reason }
     ensures { IfOk result (λ text. (records : List ShownRecord)
         → AreExplained config.now records explained.now
         → SaysDeed config.now telling.now.style session.now telling.now.peer records
         (verdict_value explained.now.verdict) text.items) }
 {
+    let Some(details) = explained.details(alloc, config) else {
+        return Err(AllocError);
+    };
     let mut sink = MemSink::new(alloc);
-    match write_deed(&mut sink, config, telling, session, explained, details) {
-        Ok(()) => Ok(sink.into_octets()),
-        Err(_) => Err(AllocError),
-    }
-}
-
-/// Returns the lines that say why a verdict is as it is. Returns `AllocError` if memory runs out.
-fn lines_of<A: Allocator + Copy>(
-    alloc: A,
-    config: &Config,
-    telling: &Telling<'_>,
-    session: &Session,
-    explained: &ExplainedRecords<A>,
-    details: &Details<'_, A>,
-) -> Result<Vec<u8, A>, AllocError>
-    requires can { CanBePutOf session.now explained.now.reason }
-    requires details { AreDetailsOf config.now explained.now.reason (Some details.now) }
-    ensures { IfOk result (λ text. (records : List ShownRecord)
-        → AreExplained config.now records explained.now
-        → SaysLines config.now telling.now.style session.now telling.now.another
-        (places_of telling.now.places) records (verdict_value explained.now.verdict)
-        text.items) }
-{
-    let mut sink = MemSink::new(alloc);
-    match write_lines(
-        &mut sink, alloc, config, telling, session, explained, details,
-    ) {
+    match write_deed(&mut sink, config, telling, session, explained, &details) {
         Ok(()) => Ok(sink.into_octets()),
         Err(_) => Err(AllocError),
     }
@@ -178,18 +116,16 @@ fn text_of<A: Allocator + Copy, T: Tracker<A>>(
 {
     records_have_just_one_verdict();
     let explained = explain_records::<A, T>(alloc, config, records)?;
-    let Some(details) = explained.details(alloc, config) else {
-        return Err(AllocError);
-    };
     let session = session_at(
         &config.parts.session,
         telling.sent,
         records,
         &explained.verdict,
     );
+    let (style, another, places) = (&telling.style, telling.another, telling.places);
     Ok(Reason {
-        deed: deed_of(alloc, config, telling, &session, &explained, &details)?,
-        lines: lines_of(alloc, config, telling, &session, &explained, &details)?,
+        deed: deed_of(alloc, config, telling, &session, &explained)?,
+        lines: keep_lines_of(alloc, config, style, &session, another, places, explained)?,
     })
 }
 

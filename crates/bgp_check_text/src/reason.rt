@@ -1,13 +1,15 @@
 //! Why a verdict on an end is a no or unfinished, as it is told.
 
-ghost use Rattle.std.specs.Prelude.{◌≡◌, ◌<◌, [], ℕ, List, Option, IfOk, length, map};
+ghost use Rattle.std.specs.Prelude.{◌≡◌, ◌<◌, [], ℕ, List, Option, IfOk, OnErr, OnOk, length, map};
 ghost use Rattle.mrt.specs.Reader.{shown_of};
 ghost use Rattle.bgp_prefix.specs.declared.session.Session.{Session as TheSession};
 ghost use Rattle.bgp_judge.specs.Verdict.{verdict_value};
 ghost use Rattle.bgp_check.specs.Answered.{IsAnswerTo, IsJudged, answer_value, number_of};
 ghost use Rattle.bgp_parts.specs.Opens.{HasOwnOpen};
+ghost use Rattle.bgp_explain.specs.KeptLines.{IsOfLines};
 ghost use Rattle.bgp_explain.specs.Places.{places_of};
 ghost use Rattle.bgp_text.specs.Lines.{Writes};
+ghost use Rattle.bgp_verdict_lines.specs.Lines.{PutsLines};
 ghost use Rattle.bgp_check_text.specs.Reason.{AreFaultsAt, IsReasonOf, IsReasonTo, IsToldAs};
 ghost use Rattle.bgp_check_text.specs.Reason.{another_of, are_shown, deed_text, is_of_another};
 ghost use Rattle.bgp_check_text.specs.Reason.{lines_text, style_of};
@@ -15,10 +17,11 @@ ghost use Rattle.bgp_check_text.specs.Reason.{lines_text, style_of};
 use crate::explained::{Telling, said_of};
 use crate::own_faults::own_faults_of;
 use bgp_check::{Answer, Judged, PeerAs, a_verdict_holds_under_its_configuration, own_open};
-use bgp_explain::Places;
+use bgp_explain::{KeptLines, Places};
 use bgp_judge::{Tracker, Verdict};
 use bgp_prefix::Seconds;
 use bgp_text::Lines;
+use bgp_verdict_lines::VerdictLines;
 use bgp_why::{Endpoint, OtherOrders, OwnFaults, Style};
 use bgp_wire::Limit;
 use mrt::{Record, Sink};
@@ -29,8 +32,8 @@ use std::alloc::{AllocError, Allocator, Global};
 pub struct Reason<A: Allocator = Global> {
     /// What the impossible record of a no shows was done, and what is wrong with it.
     pub(crate) deed: Vec<u8, A>,
-    /// The lines after that.
-    pub(crate) lines: Vec<u8, A>,
+    /// The lines after that, if there is a reason.
+    pub(crate) lines: Option<KeptLines<A>>,
 }
 
 impl<A: Allocator + Copy> Reason<A> {
@@ -41,7 +44,7 @@ impl<A: Allocator + Copy> Reason<A> {
     {
         Reason {
             deed: Vec::new(alloc),
-            lines: Vec::new(alloc),
+            lines: None,
         }
     }
 }
@@ -59,7 +62,28 @@ impl<A: Allocator> Reason<A> {
     pub fn lines(&self) -> &[u8]
         ensures { result.now ≡ lines_text self.now }
     {
-        self.lines.as_slice()
+        match &self.lines {
+            None => b"",
+            Some(kept) => kept.text(),
+        }
+    }
+}
+
+impl<A: Allocator + Copy> Reason<A> {
+    /// Puts these lines in the form of what they are put into. It takes memory: if that runs out, it
+    /// returns `AllocError`, and puts nothing.
+    pub fn put_lines<W: Sink>(
+        &self,
+        lines: &mut VerdictLines<'_, A, W>,
+        alloc: A,
+    ) -> Result<(), AllocError>
+        ensures ok { OnOk result (PutsLines lines.old lines.new (lines_text self.now)) }
+        ensures err { OnErr result (IsOfLines (lines_text self.now)) }
+    {
+        match &self.lines {
+            None => Ok(()),
+            Some(kept) => kept.put(lines, alloc),
+        }
     }
 }
 
@@ -243,5 +267,5 @@ pub fn put_deed<W: Sink, A: Allocator>(lines: &mut Lines<'_, W>, reason: &Reason
 pub fn put_reason<W: Sink, A: Allocator>(lines: &mut Lines<'_, W>, reason: &Reason<A>)
     ensures { Writes lines.old lines.new (lines_text reason.now) }
 {
-    lines.put(reason.lines.as_slice());
+    lines.put(reason.lines());
 }

@@ -22,3 +22,6 @@ pub mod OnePossible
 pub mod OneMoments
 pub mod OneReason
 pub mod OneText
+pub mod Taken
+pub mod OneKept
+pub mod OfLines

@@ -62,7 +62,7 @@ use Rattle.bgp_explain.specs.Offers.{IsOfferOf, settling_open}
 use Rattle.bgp_explain.specs.Places.{counted_places, named_place}
 use Rattle.bgp_explain.specs.SentLine.{IsErrorLine, IsLineOf, IsOctetsLine, IsSentLine, error_line, sent_reading}
 use Rattle.bgp_explain.specs.Skipped.{skipped_of}
-use Rattle.bgp_explain.specs.Why.{AreNotesOf, AreNotesOn, AreWhy, IsAlready, IsAlreadyBy, IsCaptured, IsWhy, another_line, may_come, why_text}
+use Rattle.bgp_explain.specs.Why.{AreCaptured, AreNotesOf, AreNotesOn, AreWhy, IsAlready, IsAlreadyBy, IsCaptured, IsHeard, IsWhy, another_line, may_come, why_text}
 use Rattle.bgp_explain.proofs.Captured.{frame_or_faulty}
 use Rattle.bgp_explain.proofs.OneMoments.{one_moments}
 use Rattle.bgp_explain.proofs.OnePossible.{same, same_possible}
@@ -71,19 +71,13 @@ use Rattle.bgp_explain.proofs.OneReason.{IsAlike, alike_cause, alike_lines, one_
 -- ---- each message of a capture is a frame, or begins with a faulty header
 
 module _ (config : Config) where
-  abbrev EachIsCaptured : List ShownRecord → Type 0
-  EachIsCaptured [] = Unit {0}
-  EachIsCaptured (Received t octets ∷ records) = IsCaptured config octets × EachIsCaptured records
-  EachIsCaptured (Sent t octets ∷ records) = EachIsCaptured records
-  EachIsCaptured (Changed t x y ∷ records) = EachIsCaptured records
-
-  with_one : (last : Option ℕ) (r : ShownRecord) (records : List ShownRecord) → IsAllowed config.parts.session last r → EachIsCaptured records → EachIsCaptured (r ∷ records)
+  with_one : (last : Option ℕ) (r : ShownRecord) (records : List ShownRecord) → IsAllowed config.parts.session last r → AreCaptured config records → AreCaptured config (r ∷ records)
   with_one last (Received t octets) records allowed rest =
       (frame_or_faulty (limit_with config.parts.session.extended) octets allowed.0.0 allowed.0.3, rest)
   with_one last (Sent t octets) records allowed rest = rest
   with_one last (Changed t x y) records allowed rest = rest
 
-  each_captured : EachAllowed → (last : Option ℕ) (pieces : List Piece) → ArePieces config.parts.session last pieces → EachIsCaptured (records_of pieces)
+  each_captured : EachAllowed → (last : Option ℕ) (pieces : List Piece) → ArePieces config.parts.session last pieces → AreCaptured config (records_of pieces)
   each_captured law last [] are = tt
   each_captured law last (Other octets ∷ pieces) are = each_captured law (last_after last (Other octets)) pieces are.1
   each_captured law last (OtherEnds octets ∷ pieces) are = each_captured law (last_after last (OtherEnds octets)) pieces are.1
@@ -91,21 +85,17 @@ module _ (config : Config) where
   each_captured law last (Shown octets ∷ pieces) are =
       with_one last (shown_of octets) (records_of pieces) (law config.parts.session last octets are.0) (each_captured law (last_after last (Shown octets)) pieces are.1)
 
-  first_captured : (n : ℕ) (records : List ShownRecord) → EachIsCaptured records → EachIsCaptured (take n records)
+  pub first_captured : (n : ℕ) (records : List ShownRecord) → AreCaptured config records → AreCaptured config (take n records)
   first_captured zero records h = tt
   first_captured (suc n) [] h = tt
   first_captured (suc n) (Received t octets ∷ records) h = (h.0, first_captured n records h.1)
   first_captured (suc n) (Sent t octets ∷ records) h = first_captured n records h
   first_captured (suc n) (Changed t x y ∷ records) h = first_captured n records h
 
-  -- where a message is told it is such a one
-  abbrev IsHeard : Told → List ℕ → Type 0
-  IsHeard t last = IsTrue (is_some t.last_received) → IsCaptured config last
-
   never : false ≡ true → ⊥
   never e = cc
 
-  by_change : (number : ℕ) (o : Option Fsm) (t : Told) (last : List ℕ) → IsHeard t last → IsHeard (told_by_change number o t) last
+  by_change : (number : ℕ) (o : Option Fsm) (t : Told) (last : List ℕ) → IsHeard config t last → IsHeard config (told_by_change number o t) last
   by_change number None t last h = h
   by_change number (Some fsms.Idle) t last h = λ some. absurd (never some)
   by_change number (Some fsms.Connect) t last h = h
@@ -114,7 +104,7 @@ module _ (config : Config) where
   by_change number (Some fsms.OpenConfirm) t last h = h
   by_change number (Some fsms.Established) t last h = h
 
-  heard_from : (n : ℕ) (t : Told) (last : List ℕ) (records : List ShownRecord) → EachIsCaptured records → IsHeard t last → IsHeard (told_from n t records) (last_from last records)
+  heard_from : (n : ℕ) (t : Told) (last : List ℕ) (records : List ShownRecord) → AreCaptured config records → IsHeard config t last → IsHeard config (told_from n t records) (last_from last records)
   heard_from n t last [] each h = h
   heard_from n t last (Received second octets ∷ records) each h =
       heard_from (n + 1) (told_with (n + 1) (Received second octets) t) octets records each.1 (λ some. each.0)
@@ -122,7 +112,7 @@ module _ (config : Config) where
   heard_from n t last (Changed second x y ∷ records) each h =
       heard_from (n + 1) (told_with (n + 1) (Changed second x y) t) last records each (by_change (n + 1) (fsm_at y) t last h)
 
-  heard : (records : List ShownRecord) → EachIsCaptured records → IsHeard (told records) (last_message records)
+  pub heard : (records : List ShownRecord) → AreCaptured config records → IsHeard config (told records) (last_message records)
   heard records each = heard_from 0 nothing_told [] records each (λ some. absurd (never some))
 
 -- what is named stands somewhere only if it is named
@@ -300,7 +290,7 @@ may_come_once style p (Some next) a b is =
     ap (λ (lines : List ℕ). lines ++ other_lines style.first p style.other_orders) (alike_lines p style a b is)
 
 module _ (sets : SubcodesAreSets) (config : Config) where
-  one_is_why : (style : Style) (session : Session) (another : Option ℕ) (places : ℕ → ℕ → Place) (t : Told) (m : Moments) (link : Option Link) (u : LeftOut) (octets : List ℕ)
+  pub one_is_why : (style : Style) (session : Session) (another : Option ℕ) (places : ℕ → ℕ → Place) (t : Told) (m : Moments) (link : Option Link) (u : LeftOut) (octets : List ℕ)
       (p : Possible) (next : Option (ℕ × ShownRecord)) (text other : List ℕ) → IsHeard config t octets → IsWhy config style session another places t m link u octets p next text
       → IsWhy config style session another places t m link u octets p next other → text ≡ other
   one_is_why style session another places t m link u octets p next text other whole h k =
@@ -314,7 +304,7 @@ module _ (sets : SubcodesAreSets) (config : Config) where
       h.whole ∙ (λ i. sent i ++ rest i) ∙ sym k.whole
 
   one_why : (style : Style) (session : Session) (another : Option ℕ) (places : ℕ → ℕ → Place) (records : List ShownRecord) (next : Option (ℕ × ShownRecord))
-      (text other : List ℕ) → EachIsCaptured config records → TellsWhy config style session another places records next text
+      (text other : List ℕ) → AreCaptured config records → TellsWhy config style session another places records next text
       → TellsWhy config style session another places records next other → text ≡ other
   one_why style session another places records next text other each h k =
       let possible = same_possible config records h.possible k.possible h.asked k.asked h.are k.are h.timely k.timely in
@@ -343,7 +333,7 @@ module _ (sets : SubcodesAreSets) (config : Config) where
   one_last [] a b e = cc
   one_last (r ∷ before) a b e = one_last before a b (let f : before ++ a ∷ [] ≡ before ++ b ∷ [] = cc in f)
 
-  one_why_not : (style : Style) (session : Session) (places : ℕ → ℕ → Place) (before records : List ShownRecord) (text other : List ℕ) → EachIsCaptured config before
+  one_why_not : (style : Style) (session : Session) (places : ℕ → ℕ → Place) (before records : List ShownRecord) (text other : List ℕ) → AreCaptured config before
       → TellsWhyNot config style session places before records text → TellsWhyNot config style session places before records other → text ≡ other
   one_why_not style session places before records text other each h k =
       let shown = one_last before h.shown k.shown (sym h.next ∙ k.next) in
@@ -355,7 +345,7 @@ module _ (sets : SubcodesAreSets) (config : Config) where
       (subst (λ (r : ShownRecord). TellsWhy config style session None places before (Some (length before + 1, r)) k.rest) (sym shown) k.why) in
       h.whole ∙ (λ i. record_line (places (length before + 1) (second_of (shown i))) session.local (deed i) (cause i) ++ rest i) ∙ sym k.whole
 
-  module _ (law : HasOneVerdict) (records : List ShownRecord) (micros : List (Option ℕ)) (skipped : Skipped) (each : EachIsCaptured config records) (first other : List ℕ) (status code : ℕ) where
+  module _ (law : HasOneVerdict) (records : List ShownRecord) (micros : List (Option ℕ)) (skipped : Skipped) (each : AreCaptured config records) (first other : List ℕ) (status code : ℕ) where
     one_more : (s : SaysVerdict config records first status) (t : SaysVerdict config records other code) (more also : List ℕ) → SaysMore config records micros skipped first status s more
         → SaysMore config records micros skipped other code t also → more ≡ also
     one_more (inl a) (inl b) more also h k = h ∙ sym k
@@ -391,7 +381,7 @@ one_text sets allowed law verdict config octets records also text other status c
     subst (λ (v : List Piece). SaysExplained config records (micros_of v) (skipped_of v) other code) (sym pieces)
     (subst (λ (v : List ShownRecord). SaysExplained config v (micros_of spelled.pieces) (skipped_of spelled.pieces) other code) (sym same) said)
     in
-    let each : EachIsCaptured config records = subst (EachIsCaptured config) (sym spells.shown) (each_captured config allowed None spells.pieces spells.text.each) in
+    let each : AreCaptured config records = subst (AreCaptured config) (sym spells.shown) (each_captured config allowed None spells.pieces spells.text.each) in
     let (first, equal) = verdict config octets records records says.first there.first status code spells says.says spells there.says in
     let more = one_more sets config law records (micros_of spells.pieces) skipped each says.first there.first status code says.says there.says says.more there.more says.explains there.explains in
     (says.whole ∙ (λ i. first i ++ more i) ∙ sym there.whole, equal)
@@ -400,8 +390,8 @@ one_text sets allowed law verdict config octets records also text other status c
 
 pub one_reason : SubcodesAreSets → EachAllowed → HasOneReason
 one_reason sets allowed config style places octets records verdict more also spells h k = told verdict h k where
-  each : EachIsCaptured config records
-  each = subst (EachIsCaptured config) (sym spells.shown) (each_captured config allowed None spells.pieces spells.text.each)
+  each : AreCaptured config records
+  each = subst (AreCaptured config) (sym spells.shown) (each_captured config allowed None spells.pieces spells.text.each)
 
   told : (v : VerdictValue) → SaysOfRecords config style config.parts.session places records v more → SaysOfRecords config style config.parts.session places records v also → more ≡ also
   told (Yes ends) a b = a ∙ sym b

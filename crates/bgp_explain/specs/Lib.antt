@@ -20,6 +20,7 @@ pub mod SentLine
 pub mod Why
 pub mod Deed
 pub mod Text
+pub mod KeptLines
 pub mod Capture
 pub mod Records
 pub mod Written

@@ -22,7 +22,8 @@ use Rattle.bgp_explain.specs.Kept.{shown_by}
 use Rattle.bgp_explain.specs.Lacked.{Lacked}
 use Rattle.bgp_explain.specs.Places.{kept_places}
 use Rattle.bgp_explain.specs.Tally.{yes_lines}
-use Rattle.bgp_explain.specs.Why.{IsWhy}
+use Rattle.bgp_explain.specs.Why.{IsWhy, IsWhyWith}
+use Rattle.bgp_explain.specs.declared.why.Why.{Why}
 
 -- ---- of a reason
 
@@ -32,6 +33,12 @@ abbrev pub IsWhyOf : {X : Type 0} → Config → Style → Session → Option �
 IsWhyOf config style session another places reason text =
     IsWhy config style session another places reason.told reason.moments reason.link
     reason.left_out reason.last_message.items reason.possible (next_in reason.impossible) text
+
+abbrev pub IsWhyOfWith : {X : Type 0} → Config → Style → Session → Option ℕ → Reason X → Why
+    → List ℕ → Type 0
+IsWhyOfWith config style session another reason why text =
+    IsWhyWith config style session another reason.told reason.link reason.last_message.items
+    reason.possible (next_in reason.impossible) why text
 
 -- the line of the first impossible record, where there is one, as of a capture of this session; and
 -- then why it is so

@@ -1,7 +1,8 @@
 -- Why the next record is impossible, or what may follow if there is none: the lines after the one
 -- of that record.
-use Rattle.std.specs.Prelude.{◌≡◌, ◌≤◌, ◌⊎◌, ◌++◌, ℕ, List, [], Option, None, Some, length}
-use Rattle.bgp_prefix.specs.Shown.{ShownRecord}
+use Rattle.std.specs.Prelude.{◌≡◌, ◌≤◌, ◌⊎◌, ◌++◌, ℕ, List, [], ◌∷◌, Option, None, Some, length}
+use Rattle.std.specs.Prelude.{IsTrue, is_some}
+use Rattle.bgp_prefix.specs.Shown.{ShownRecord, Received, Sent, Changed}
 use Rattle.bgp_prefix.specs.declared.session.Session.{Session}
 use Rattle.bgp_wire.specs.Framing.{IsFaulty, IsFrame}
 use Rattle.bgp_open.specs.declared.config.Config.{Config}
@@ -28,7 +29,7 @@ use Rattle.bgp_why.specs.State.{already_line, another_as_line, state_line}
 use Rattle.bgp_explain.specs.declared.left_out.LeftOut.{LeftOut}
 use Rattle.bgp_explain.specs.declared.moments.Moments.{Moments}
 use Rattle.bgp_explain.specs.declared.moments.SentNotification.{SentNotification}
-use Rattle.bgp_explain.specs.declared.why.Received.{Received}
+use Rattle.bgp_explain.specs.declared.why.Received.{Received as LastReceived}
 use Rattle.bgp_explain.specs.declared.why.Why.{Why}
 use Rattle.bgp_explain.specs.Details.{AreLacksOf, IsAskedBy}
 use Rattle.bgp_explain.specs.Lacked.{Lacked, following_lines}
@@ -58,8 +59,8 @@ pub record AreAskedBy (config : Config) (link : Option Link) (told : Told) (octe
   pub message : 19 ≤ length octets → Asks config octets asked.message
 
 -- it stands there, if one was received since Idle was told
-abbrev pub IsReceivedBy : Config → Option Link → Told → List ℕ → Option Place → Option Received
-    → Type 0
+abbrev pub IsReceivedBy : Config → Option Link → Told → List ℕ → Option Place
+    → Option LastReceived → Type 0
 IsReceivedBy config link told octets None None = Unit {0}
 IsReceivedBy config link told octets None (Some received) = ⊥
 IsReceivedBy config link told octets (Some place) None = ⊥
@@ -67,12 +68,26 @@ IsReceivedBy config link told octets (Some place) (Some received) =
     (received.place ≡ place) × AreAskedBy config link told octets received.asked
 
 -- its line: of an UPDATE in Established it has all that may become of it
-abbrev pub received_line : Style → Option Received → Option Asking → List ℕ
+abbrev pub received_line : Style → Option LastReceived → Option Asking → List ℕ
 received_line style None asking = []
 received_line style (Some received) None =
     last_received_line style received.place received.asked
 received_line style (Some received) (Some asking) =
     update_line style received.place received.asked.name asking
+
+-- ---- the records before
+
+-- each message that was received is so
+abbrev pub AreCaptured : Config → List ShownRecord → Type 0
+AreCaptured config [] = Unit {0}
+AreCaptured config (Received second octets ∷ records) =
+    IsCaptured config octets × AreCaptured config records
+AreCaptured config (Sent second octets ∷ records) = AreCaptured config records
+AreCaptured config (Changed second old new ∷ records) = AreCaptured config records
+
+-- the last one is, where one is told
+abbrev pub IsHeard : Config → Told → List ℕ → Type 0
+IsHeard config told octets = IsTrue (is_some told.last_received) → IsCaptured config octets
 
 -- ---- the next record
 
@@ -172,6 +187,19 @@ pub record IsWhy (config : Config) (style : Style) (session : Session) (another 
   pub lacked : Lacked
   pub is_sent : IsSentLine config session link next sent
   pub are_why : AreWhy config places told moments link left_out octets possible next why
+  pub is_asked : IsAskedBy config told link octets asking
+  pub are_lacks : AreLacksOf config link possible next lacked
+  pub whole : text
+      ≡ sent ++ why_text style another told.state next possible why asking lacked
+
+-- the same of what is said of the records that takes no memory, wherever they stand
+pub record IsWhyWith (config : Config) (style : Style) (session : Session) (another : Option ℕ)
+    (told : Told) (link : Option Link) (octets : List ℕ) (possible : Possible)
+    (next : Option (ℕ × ShownRecord)) (why : Why) (text : List ℕ) : Type 0 where
+  pub sent : List ℕ
+  pub asking : Option Asking
+  pub lacked : Lacked
+  pub is_sent : IsSentLine config session link next sent
   pub is_asked : IsAskedBy config told link octets asking
   pub are_lacks : AreLacksOf config link possible next lacked
   pub whole : text

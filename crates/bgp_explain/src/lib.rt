@@ -17,6 +17,7 @@ mod explained;
 mod fractions;
 mod headline;
 mod kept;
+mod kept_lines;
 mod laws;
 mod left_out;
 mod moments;
@@ -40,6 +41,7 @@ pub use explained::{Explained, Impossible, Reason, Totals};
 pub use fractions::{Fractions, NumberedRecord};
 pub use headline::{explain_capture, explained_as_judged};
 pub use kept::KeptRecord;
+pub use kept_lines::KeptLines;
 pub use laws::{
     a_no_at_a_message_tells_what_is_owed, a_no_names_what_lacks, each_reason_has_one_text,
     each_verdict_is_explained_in_one_way, the_last_message_is_told, what_could_have_stood_is_told,
@@ -49,7 +51,7 @@ pub use moments::{Moments, SentNotification, first_second};
 pub use opened::{JudgedCapture, judge_opened};
 pub use places::{Places, entry_place};
 pub use records::{
-    ExplainedRecords, explain_records, put_deed_of, put_explained_records, put_lines_of,
+    ExplainedRecords, explain_records, keep_lines_of, put_deed_of, put_explained_records,
 };
 pub use report::Report;
 pub use skipped::Skipped;

@@ -13,17 +13,19 @@ ghost use Rattle.bgp_explain.specs.Details.{AreDetailsOf};
 ghost use Rattle.bgp_explain.specs.Places.{places_of};
 ghost use Rattle.bgp_explain.specs.Progress.{IsAt};
 ghost use Rattle.bgp_explain.specs.Records.{AreExplained, SaysDeed, SaysLines, SaysWhere};
+ghost use Rattle.bgp_explain.specs.KeptLines.{kept_text};
 ghost use Rattle.bgp_explain.specs.Text.{CanBePutOf};
+ghost use Rattle.bgp_explain.specs.Why.{AreCaptured};
 
 use crate::deed::put_deed_text;
 use crate::details::{Details, details_of};
 use crate::explained::Reason;
+use crate::kept_lines::KeptLines;
 use crate::left_out::LeftOut;
 use crate::places::Places;
 use crate::so_far::Progress;
 use crate::tally::{Tally, put_yes_lines};
 use crate::texts::put_any_reason;
-use crate::why::put_lines;
 use bgp_judge::{Tracker, Verdict};
 use bgp_open::Config;
 use bgp_prefix::Session;
@@ -179,34 +181,45 @@ pub fn put_deed_of<W: Sink, A: Allocator + Copy>(
     }
 }
 
-/// Puts the lines of the reason of a no, without the first one, or of an unfinished: the message of
-/// the impossible record in words, what the records before tell, all that could have stood in its
-/// place or may follow, and notes. Nothing is put after a yes. If a number is given, the
-/// configuration is one with any other AS number of the peer.
+/// Keeps the lines of the reason of a no, without the first one, or of an unfinished, to be put in
+/// either form: the message of the impossible record in words, what the records before tell, all
+/// that could have stood in its place or may follow, and notes. There are none after a yes. If a
+/// number is given, the configuration is one with any other AS number of the peer. Returns
+/// `AllocError` if memory runs out, or ran out for the reason.
 ///
 /// The records stand at these places, and the impossible one is one that a capture of this session
-/// can hold. The details are those of the reason, which has to be there.
-pub fn put_lines_of<W: Sink, A: Allocator + Copy>(
-    lines: &mut VerdictLines<'_, A, W>,
+/// can hold. Each message that they show as received is one that a capture of the configuration's
+/// session can hold.
+pub fn keep_lines_of<A: Allocator + Copy>(
+    alloc: A,
     config: &Config,
     style: &Style,
     session: &Session,
     another: Option<u32>,
     places: Places<'_>,
-    explained: &ExplainedRecords<A>,
-    details: &Details<'_, A>,
-)
-    requires can { CanBePutOf session.now explained.now.reason }
-    requires details { AreDetailsOf config.now explained.now.reason (Some details.now) }
-    ensures { (records : List ShownRecord) → AreExplained config.now records explained.now
-        → (text : List ℕ)
-        × SaysLines config.now style.now session.now another (places_of places.entry) records
-        (verdict_value explained.now.verdict) text
-        × PutsLines lines.old lines.new text }
+    explained: ExplainedRecords<A>,
+) -> Result<Option<KeptLines<A>>, AllocError>
+    requires can { CanBePutOf session.now explained.reason }
+    requires captured { (records : List ShownRecord) × AreExplained config.now records explained
+        × AreCaptured config.now records }
+    ensures { IfOk result (λ kept. (records : List ShownRecord)
+        → AreExplained config.now records explained
+        → SaysLines config.now style.now session.now another (places_of places.entry) records
+        (verdict_value explained.verdict) (kept_text kept)) }
 {
-    if let Some(reason) = &explained.reason {
-        put_lines(
-            lines, config, style, session, another, places, reason, details,
-        );
+    let ExplainedRecords {
+        verdict,
+        reason,
+        ..
+    } = explained;
+    match reason {
+        Some(reason) => {
+            let kept = KeptLines::of(alloc, config, style, session, another, places, reason)?;
+            Ok(Some(kept))
+        }
+        None => match verdict {
+            Verdict::Yes(_) => Ok(None),
+            Verdict::No(_) | Verdict::Unfinished => Err(AllocError),
+        },
     }
 }

@@ -7,7 +7,7 @@ ghost use Rattle.bgp_explain.specs.Details.{AreDetails, asking_in, next_in};
 ghost use Rattle.bgp_explain.specs.Kept.{shown_by};
 ghost use Rattle.bgp_explain.specs.Lacked.{following_lines, lacked_of};
 ghost use Rattle.bgp_explain.specs.Places.{places_of};
-ghost use Rattle.bgp_explain.specs.Text.{CanBePut, IsWhyOf};
+ghost use Rattle.bgp_explain.specs.Text.{CanBePut, IsWhyOf, IsWhyOfWith};
 ghost use Rattle.bgp_explain.specs.Updates.{asking_of, update_line};
 ghost use Rattle.bgp_explain.specs.Why.{AreNotesOf, AreNotesOn, AreWhy, IsAlready, IsAlreadyBy};
 ghost use Rattle.bgp_explain.specs.Why.{IsReceivedBy, IsUnwholeOf, already_at, another_line};
@@ -165,7 +165,11 @@ fn notes_of<A: Allocator + Copy>(config: &Config, reason: &Reason<A>) -> Notes
 }
 
 /// Returns what a reason says, whose records stand at these places.
-fn why_of<A: Allocator + Copy>(config: &Config, places: Places<'_>, reason: &Reason<A>) -> Why
+pub(crate) fn why_of<A: Allocator + Copy>(
+    config: &Config,
+    places: Places<'_>,
+    reason: &Reason<A>,
+) -> Why
     ensures { AreWhy config.now (places_of places.entry) reason.now.told reason.now.moments
         reason.now.link reason.now.left_out reason.now.last_message.items reason.now.possible
         (next_in reason.now.impossible) result }
@@ -287,6 +291,27 @@ fn put_why<W: Sink, A: Allocator + Copy>(
     put_notes(lines, style, &why.notes);
 }
 
+/// Puts the lines of a reason after that of the first impossible record, by what it says that takes
+/// no memory.
+pub(crate) fn put_lines_with<W: Sink, A: Allocator + Copy>(
+    lines: &mut VerdictLines<'_, A, W>,
+    config: &Config,
+    style: &Style,
+    session: &Session,
+    another: Option<u32>,
+    reason: &Reason<A>,
+    details: &Details<'_, A>,
+    why: &Why,
+)
+    requires can { CanBePut session.now reason.now.impossible }
+    requires details { AreDetails config.now reason.now details.now }
+    ensures { (text : List ℕ) × IsWhyOfWith config.now style.now session.now another reason.now
+        why.now text × PutsLines lines.old lines.new text }
+{
+    put_sent_line(lines, config, session, reason.link, &reason.impossible);
+    put_why(lines, style, another, reason, details, why);
+}
+
 /// Puts the lines of a reason after that of the first impossible record: its message in words, if
 /// it was sent; what the records before tell; all that could have stood in its place, or may
 /// follow; and notes. If a number is given, the configuration has any other AS number of the peer.
@@ -305,7 +330,8 @@ pub(crate) fn put_lines<W: Sink, A: Allocator + Copy>(
     ensures { (text : List ℕ) × IsWhyOf config.now style.now session.now another
         (places_of places.entry) reason.now text × PutsLines lines.old lines.new text }
 {
-    put_sent_line(lines, config, session, reason.link, &reason.impossible);
     let why = why_of(config, places, reason);
-    put_why(lines, style, another, reason, details, &why);
+    put_lines_with(
+        lines, config, style, session, another, reason, details, &why,
+    );
 }

@@ -17,14 +17,13 @@ use Rattle.bgp_json_verdicts.specs.At.{number_members as some_number, place_memb
 use Rattle.bgp_ended.specs.Values.{HowValue, Notified, Closed, Fallen}
 use Rattle.bgp_list.specs.EndedJson.{how_members}
 use Rattle.bgp_why.specs.declared.place.Place.{Place}
-use Rattle.bgp_json_verdicts.specs.Lines.{ReasonValue}
-use Rattle.bgp_json_verdicts.specs.Objects.{family_texts, reason_members, reason_type}
+use Rattle.bgp_json_verdicts.specs.Objects.{family_texts}
 use Rattle.bgp_json_verdicts.specs.RouteJson.{route_members}
-use Rattle.bgp_json_verdicts.proofs.Shallow.{number_within as packet_within, place_within, reason_within, route_within, shallow}
+use Rattle.bgp_json_verdicts.proofs.Shallow.{number_within as packet_within, place_within, route_within, shallow}
 use Rattle.bgp_list.specs.JsonMembers.{endpoint_members, number_members}
 use Rattle.bgp_why.specs.declared.endpoint.Endpoint.{Endpoint}
 use Rattle.bgp_json_check.specs.Members.{all_members, before_members, deed_members, disabled_members, end_members, known_members, member_of, part_members, peer_members, record_members}
-use Rattle.bgp_json_check.specs.Objects.{ended_json, judged_json, reason_json, route_json}
+use Rattle.bgp_json_check.specs.Objects.{ended_json, judged_json, route_json}
 use Rattle.bgp_json_check.specs.declared.member.JudgedEnd.{JudgedEnd}
 use Rattle.bgp_json_check.specs.declared.member.Member.{Member}
 use Rattle.bgp_json_check.specs.declared.member.Member.TheVariants as members
@@ -124,6 +123,3 @@ ended_shallow judged place by how =
     let ends = endpoint_members (codes "by") (codes "by_port") by in
     shallow (codes "ended") ((codes "judged", number_of judged) ∷ (place_members place ++ (ends ++ how_members how)))
     (omega arith, both_within 6 (place_members place) (ends ++ how_members how) (place_within place) (both_within 6 ends (how_members how) (endpoint_within (codes "by") (codes "by_port") by) (how_within how)))
-
-pub reason_shallow : (judged : ℕ) (reason : ReasonValue) → depth (reason_json judged reason) ≤ max_depth
-reason_shallow judged reason = shallow (reason_type reason) ((codes "judged", number_of judged) ∷ reason_members reason) (omega arith, reason_within reason)

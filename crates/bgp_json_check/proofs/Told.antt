@@ -7,7 +7,7 @@ use Rattle.bgp_text.specs.declared.lines.Lines.{Lines}
 use Rattle.bgp_text.proofs.Pieces.{Joins, and_nothing, nothing_yet}
 use Rattle.bgp_json.specs.Line.{IsOneValue}
 use Rattle.bgp_json.specs.Object.{json_line}
-use Rattle.bgp_json_verdicts.specs.Telling.{PutsObjects}
+use Rattle.bgp_json_verdicts.specs.Telling.{AreValues, PutsObjects, lines_of}
 use Rattle.bgp_json_verdicts.proofs.Told.{and_put}
 use Rattle.bgp_json_check.specs.Telling.{Tells, TellsUpTo}
 use Rattle.bgp_json_check.specs.declared.teller.CheckTeller.{CheckTeller}
@@ -106,4 +106,18 @@ module _ {W : Type 0} {sink : sinks.Ghosts W} (old new : Lines W sink) (a : Chec
   told_none judged wrote = record {
     counted = λ calm. absurd (let k : ⊥ = cc in k);
     puts = left_out a.has_failed wrote;
+  }
+
+-- ---- objects that were made in memory
+
+module _ {W : Type 0} {sink : sinks.Ghosts W} (old new : Lines W sink) (a : CheckTeller) (objects : List Json) where
+  made_puts : (b : Bool) (text : List ℕ) → b ≡ false → (text ≡ lines_of objects) × AreValues objects → Writes old new text → PutsObjects old new objects b b
+  made_puts false text calm are wrote = (subst (λ (t : List ℕ). Writes old new t) are.0 wrote, are.1)
+  made_puts true text calm are wrote = absurd (let k : ⊥ = cc in k)
+
+  -- they were put
+  pub told_made : (text : List ℕ) → a.has_failed ≡ false → (text ≡ lines_of objects) × AreValues objects → Writes old new text → Tells a a old new objects
+  told_made text calm are wrote = record {
+    counted = λ still. refl;
+    puts = made_puts a.has_failed text calm are wrote;
   }

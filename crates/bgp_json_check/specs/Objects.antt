@@ -10,8 +10,7 @@ use Rattle.bgp_check.specs.declared.peer_as.PeerAs.{PeerAs}
 use Rattle.bgp_json.specs.Object.{typed}
 use Rattle.bgp_json_values.specs.Objects.{number_of}
 use Rattle.bgp_json_verdicts.specs.At.{place_members}
-use Rattle.bgp_json_verdicts.specs.Lines.{ReasonValue}
-use Rattle.bgp_json_verdicts.specs.Objects.{reason_members, reason_type, state_member, text_json}
+use Rattle.bgp_json_verdicts.specs.Objects.{state_member, text_json}
 use Rattle.bgp_json_verdicts.specs.RouteJson.{route_members}
 use Rattle.bgp_ended.specs.Values.{HowValue}
 use Rattle.bgp_list.specs.EndedJson.{how_members}
@@ -82,7 +81,6 @@ detail_kind details.AnotherOrder = codes "another_order"
 detail_kind details.AllOrders = codes "all_orders"
 detail_kind (details.Late within answer) = codes "late"
 detail_kind (details.Repeat command) = codes "repeat"
-detail_kind (details.Reason text) = codes "reason"
 detail_kind details.Open = codes "open"
 
 abbrev pub detail_members : CheckDetail → List (List ℕ × Json)
@@ -106,7 +104,6 @@ detail_members details.AllOrders = []
 detail_members (details.Late within answer) =
     (codes "within", number_of within) ∷ (codes "answer", string answer.now) ∷ []
 detail_members (details.Repeat command) = (codes "command", text_json command.now) ∷ []
-detail_members (details.Reason text) = (codes "text", text_json text.now) ∷ []
 detail_members details.Open = []
 
 abbrev pub detail_json : ℕ → CheckDetail → Json
@@ -117,10 +114,6 @@ abbrev pub ended_json : ℕ → Place → Endpoint → HowValue → Json
 ended_json judged place by how =
     judged_json (codes "ended") judged (place_members place
     ++ (endpoint_members (codes "by") (codes "by_port") by ++ how_members how))
-
--- a line of its reason
-abbrev pub reason_json : ℕ → ReasonValue → Json
-reason_json judged reason = judged_json (reason_type reason) judged (reason_members reason)
 
 -- ---- what is said of a whole file
 

@@ -51,8 +51,6 @@ pub enum CheckDetail<'a> {
     Late(u16, &'static str),
     /// The `bgp judge` command that reproduces a verdict.
     Repeat(&'a [u8]),
-    /// The lines of its reason.
-    Reason(&'a [u8]),
     /// The session is open at the end of the file.
     Open,
 }

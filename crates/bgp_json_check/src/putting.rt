@@ -5,7 +5,6 @@ ghost use Rattle.json.specs.Tree.{json_tokens};
 ghost use Rattle.bgp_json.specs.Line.{PutsLine};
 ghost use Rattle.bgp_json.specs.Object.{json_line, typed};
 ghost use Rattle.bgp_json_values.specs.Adding.{Adds};
-ghost use Rattle.bgp_json_verdicts.specs.Lines.{reason_value};
 ghost use Rattle.bgp_ended.specs.Values.{how_value};
 ghost use Rattle.bgp_list.specs.Forms.{line_json};
 ghost use Rattle.bgp_list.specs.Lines.{line_value};
@@ -13,7 +12,6 @@ ghost use Rattle.bgp_list.specs.SessionJson.{session_json};
 ghost use Rattle.mrt_sessions.specs.Located.{located};
 ghost use Rattle.bgp_json_check.specs.Members.{all_members};
 ghost use Rattle.bgp_json_check.specs.Objects.{detail_json, ended_json, judged_json};
-ghost use Rattle.bgp_json_check.specs.Objects.{reason_json};
 ghost use Rattle.bgp_json_check.specs.Objects.{route_json, total_json, verdict_json};
 
 use crate::member::{Member, put_members};
@@ -21,7 +19,7 @@ use crate::objects::{CheckDetail, CheckTotal, CheckVerdict};
 use bgp_ended::How;
 use bgp_json::begin;
 use bgp_json_values::put_number;
-use bgp_json_verdicts::{ReasonLine, put_place, put_reason, put_route, put_written, reason_type};
+use bgp_json_verdicts::{put_place, put_route, put_written};
 use bgp_list::{Line, put_end_members, put_how_members, write_session};
 use bgp_path::Path;
 use bgp_text::Lines;
@@ -224,10 +222,6 @@ pub(crate) fn put_detail_object<A: Allocator + Copy, W: Sink>(
             let members = [Member::Text("command", command)];
             put_judged(lines, alloc, "repeat", judged, &members)
         }
-        CheckDetail::Reason(text) => {
-            let members = [Member::Text("text", text)];
-            put_judged(lines, alloc, "reason", judged, &members)
-        }
         CheckDetail::Open => put_judged(lines, alloc, "open", judged, &[]),
     }
 }
@@ -336,37 +330,6 @@ pub(crate) fn put_ended_object<A: Allocator + Copy, W: Sink>(
 {
     let mut writer = start(alloc);
     let written = write_ended(&mut writer, alloc, judged, place, by, how);
-    put_written(lines, writer, written)
-}
-
-/// Writes the object of a line of a verdict's reason.
-fn write_reason<A: Allocator + Copy>(
-    writer: &mut Writer<A>,
-    alloc: A,
-    judged: u64,
-    reason: &ReasonLine<'_>,
-) -> Result<(), AllocError>
-    ensures { Adds result writer.old writer.new
-        (json_tokens (reason_json judged (reason_value reason.now))) }
-{
-    begin(writer, reason_type(reason))?;
-    put_number(writer, "judged", judged)?;
-    put_reason(writer, alloc, reason)?;
-    writer.end_object()
-}
-
-/// Puts the object of a line of a verdict's reason. If memory is refused, it puts nothing.
-pub(crate) fn put_reason_object<A: Allocator + Copy, W: Sink>(
-    lines: &mut Lines<'_, W>,
-    alloc: A,
-    judged: u64,
-    reason: &ReasonLine<'_>,
-) -> Result<(), AllocError>
-    ensures { PutsLine result lines.old lines.new
-        (json_line (reason_json judged (reason_value reason.now))) }
-{
-    let mut writer = start(alloc);
-    let written = write_reason(&mut writer, alloc, judged, reason);
     put_written(lines, writer, written)
 }
 

@@ -1,32 +1,31 @@
 //! Objects one after another, as far as there is memory for them.
 
-ghost use Rattle.std.specs.Prelude.{◌≡◌, ◌+◌, ◌∷◌, [], false, map, true};
+ghost use Rattle.std.specs.Prelude.{◌≡◌, ◌+◌, ◌∷◌, [], IfOk, List, false, map, true};
+ghost use Rattle.json.specs.Json.{Json};
 ghost use Rattle.bgp_judge.specs.Ends.{end_value};
 ghost use Rattle.bgp_tool.specs.Status.{code_of};
 ghost use Rattle.mrt_sessions.specs.Located.{located};
 ghost use Rattle.bgp_json.specs.Others.{capture_json};
-ghost use Rattle.bgp_json_verdicts.specs.Lines.{reason_value};
+ghost use Rattle.bgp_json_verdicts.specs.Telling.{AreValues, lines_of};
 ghost use Rattle.bgp_ended.specs.Values.{how_value};
 ghost use Rattle.bgp_list.specs.ConnectionJson.{refused_json};
 ghost use Rattle.bgp_list.specs.Forms.{line_json};
 ghost use Rattle.bgp_list.specs.Lines.{line_value};
 ghost use Rattle.bgp_list.specs.SessionJson.{session_json};
 ghost use Rattle.bgp_json_check.specs.Objects.{before_json, befores_json, detail_json, end_json};
-ghost use Rattle.bgp_json_check.specs.Objects.{ended_json, numbered_json, reason_json};
-ghost use Rattle.bgp_json_check.specs.Objects.{route_json};
+ghost use Rattle.bgp_json_check.specs.Objects.{ended_json, numbered_json, route_json};
 ghost use Rattle.bgp_json_check.specs.Objects.{routes_json, total_json, verdict_json, yes_json};
 ghost use Rattle.bgp_json_check.specs.Telling.{Tells, TellsVerdict, told_status};
 
 use crate::member::JudgedEnd;
 use crate::objects::{CheckDetail, CheckTotal, CheckVerdict};
 use crate::putting::{
-    put_detail_object, put_ended_object, put_listed_object, put_reason_object, put_route_object,
-    put_session_object, put_total_object, put_verdict_object,
+    put_detail_object, put_ended_object, put_listed_object, put_route_object, put_session_object,
+    put_total_object, put_verdict_object,
 };
 use bgp_check::PeerAs;
 use bgp_ended::How;
 use bgp_import::Refusal;
-use bgp_json_verdicts::ReasonLine;
 use bgp_judge::End;
 use bgp_list::{Line, put_fault_json, put_refused_json};
 use bgp_path::Path;
@@ -69,6 +68,13 @@ impl CheckTeller {
         } else {
             status
         }
+    }
+
+    /// Returns how many verdicts there are so far.
+    pub fn judged(&self) -> u64
+        ensures { result ≡ self.now.judged }
+    {
+        self.judged
     }
 
     /// Tells that memory was refused for an object, so that nothing more is put.
@@ -141,21 +147,21 @@ impl CheckTeller {
         }
     }
 
-    /// Puts the object of a line of the last verdict's reason.
-    pub fn put_reason<A: Allocator + Copy, W: Sink>(
+    /// Puts objects that were made in memory, which belong to the last verdict.
+    pub fn put_made<A: Allocator, W: Sink>(
         &mut self,
         lines: &mut Lines<'_, W>,
-        alloc: A,
-        reason: &ReasonLine<'_>,
+        made: Result<Vec<u8, A>, AllocError>,
     )
-        ensures { Tells self.old self.new lines.old lines.new
-            (reason_json self.old.judged (reason_value reason.now) ∷ []) }
+        ensures { (objects : List Json)
+            → IfOk made (λ text. (text.items ≡ lines_of objects) × AreValues objects)
+            → Tells self.old self.new lines.old lines.new objects }
     {
         if self.has_failed {
             return;
         }
-        match put_reason_object(lines, alloc, self.judged, reason) {
-            Ok(()) => {}
+        match made {
+            Ok(text) => lines.put(text.as_slice()),
             Err(AllocError) => self.fail(),
         }
     }

@@ -238,5 +238,9 @@ objects_from counts (line ∷ lines) =
 abbrev pub no_counts : Counts
 no_counts = record { judged = 0; end = 0 }
 
+-- behind so many verdicts, the last of which has no ends yet
+abbrev pub counts_behind : ℕ → Counts
+counts_behind judged = record { judged = judged; end = 0 }
+
 abbrev pub objects_of : List LineValue → List Json
 objects_of lines = objects_from no_counts lines

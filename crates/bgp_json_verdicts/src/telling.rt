@@ -7,7 +7,7 @@ ghost use Rattle.bgp_judge.specs.Verdict.{No, verdict_value};
 ghost use Rattle.bgp_tool.specs.Status.{code_of};
 ghost use Rattle.bgp_json_verdicts.specs.Lines.{HasRoute, Refuses, RefusesCapture, end_lines};
 ghost use Rattle.bgp_json_verdicts.specs.Lines.{line_value, route_value, verdict_lines};
-ghost use Rattle.bgp_json_verdicts.specs.Objects.{counted_with, no_counts};
+ghost use Rattle.bgp_json_verdicts.specs.Objects.{counted_with, counts_behind, no_counts};
 ghost use Rattle.bgp_json_verdicts.specs.Telling.{PutsCounted, Tells, told_status};
 
 use crate::answer::Answer;
@@ -83,6 +83,17 @@ impl Telling {
     {
         Telling {
             counts: Counts { judged: 0, end: 0 },
+            has_failed: false,
+        }
+    }
+
+    /// Starts behind so many verdicts, the last of which has no ends yet.
+    pub fn behind(judged: u64) -> Telling
+        ensures counts { result.counts ≡ counts_behind judged }
+        ensures calm { result.has_failed ≡ false }
+    {
+        Telling {
+            counts: Counts { judged, end: 0 },
             has_failed: false,
         }
     }

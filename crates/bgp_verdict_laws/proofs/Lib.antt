@@ -6,3 +6,4 @@ pub mod Routes
 pub mod Lines
 pub mod Printed
 pub mod Numbers
+pub mod Marks

@@ -2,6 +2,8 @@
 
 ghost use Rattle.bgp_verdict_laws.specs.Laws.{LinesAreDetermined, OutputsAreDetermined};
 ghost use Rattle.bgp_verdict_laws.specs.Laws.{PrintedIsDetermined};
+ghost use Rattle.bgp_verdict_laws.specs.Marks.{AsksAreMarked, LacksAreMarked};
+ghost use Rattle.bgp_verdict_laws.specs.Marks.{UpdateAsksAreMarked};
 ghost use Rattle.bgp_verdict_laws.specs.Numbers.{LinesHaveNumbers};
 
 /// States that the object of a line determines the line's text: of a verdict, an end, a route, a
@@ -21,4 +23,13 @@ pub fn each_output_determines_its_text()
 /// of its lines have 64 bits.
 pub fn each_number_is_one_of_json()
     ensures { LinesHaveNumbers }
+{}
+
+/// States that what an object leaves out of a text stands there: `: ` before what a message asks
+/// for, and before what an UPDATE asks for, if it may be applied or refused; and `; ` before what a
+/// record lacks of an item.
+pub fn each_text_has_its_mark()
+    ensures asks { AsksAreMarked }
+    ensures update { UpdateAsksAreMarked }
+    ensures lacks { LacksAreMarked }
 {}

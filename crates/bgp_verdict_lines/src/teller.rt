@@ -2,7 +2,7 @@
 
 ghost use Rattle.std.specs.Prelude.{◌≡◌};
 ghost use Rattle.bgp_tool.specs.Status.{code_of};
-ghost use Rattle.bgp_verdict_lines.specs.Teller.{Starts, teller_status};
+ghost use Rattle.bgp_verdict_lines.specs.Teller.{Starts, StartsBehind, teller_status};
 
 use crate::form::VerdictForm;
 use bgp_json_verdicts::Telling;
@@ -26,6 +26,13 @@ impl VerdictTeller {
             VerdictForm::Text => VerdictTeller::Text,
             VerdictForm::Json => VerdictTeller::Json(Telling::new()),
         }
+    }
+
+    /// Starts in JSON behind so many verdicts, the last of which has no ends yet.
+    pub fn behind(judged: u64) -> VerdictTeller
+        ensures { StartsBehind judged result }
+    {
+        VerdictTeller::Json(Telling::behind(judged))
     }
 
     /// Returns the exit status of what has this one, or that of memory, where it was refused for an

@@ -3,7 +3,7 @@
 ghost use Rattle.std.specs.Prelude.{◌≡◌, ◌<◌, ◌⊎◌, [], IsFalse, IsTrue, OnErr, OnOk};
 ghost use Rattle.bgp_text.specs.Lines.{Writes};
 ghost use Rattle.bgp_tool.specs.Status.{code_of};
-ghost use Rattle.bgp_verdict_lines.specs.Teller.{Starts, teller_status};
+ghost use Rattle.bgp_verdict_lines.specs.Teller.{Starts, StartsBehind, teller_status};
 
 use crate::form::VerdictForm;
 use crate::teller::VerdictTeller;
@@ -34,6 +34,22 @@ impl<'a, A: Allocator + Copy, W: Sink> VerdictLines<'a, A, W> {
         VerdictLines {
             lines: Lines::new(sink),
             teller: VerdictTeller::new(form),
+            alloc,
+        }
+    }
+
+    /// Starts in JSON behind so many verdicts, the last of which has no ends yet.
+    pub fn behind(judged: u64, alloc: A, sink: &'a mut W) -> VerdictLines<'a, A, W>
+        requires { W.failures sink.old < u64.MAX }
+        ensures same { result.lines.outlet.sink.ghost_name ≡ sink.entry.ghost_name }
+        ensures now { result.lines.outlet.sink.now ≡ sink.old }
+        ensures fresh { IsFalse result.lines.outlet.has_failed }
+        ensures empty { result.lines.held.items ≡ [] }
+        ensures starts { StartsBehind judged result.teller }
+    {
+        VerdictLines {
+            lines: Lines::new(sink),
+            teller: VerdictTeller::behind(judged),
             alloc,
         }
     }
