@@ -78,6 +78,7 @@ fn pay_fall(config: &Config, words: Words, fall: Fall, shown: &Record<'_>) -> Op
 }
 
 /// Adds what the record leaves of the members that fall so, if there are any.
+#[inline(always)]
 fn add_paid(
     config: &Config,
     words: Words,
