@@ -135,4 +135,5 @@ def main(kind, count, rate=0):
         index += len(several)
 
 
-main(sys.argv[1], *map(int, sys.argv[2:]))
+if __name__ == '__main__':
+    main(sys.argv[1], *map(int, sys.argv[2:]))

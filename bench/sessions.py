@@ -204,9 +204,10 @@ def main(prefixes, further, ending=None):
     session.end(ending)
 
 
-words = sys.argv[1:]
-if (len(words) not in (2, 3) or words[2:] not in ([], ['ended'], ['several'])
-        or not all(word.isdecimal() for word in words[:2])
-        or int(words[0]) == 0 != int(words[1])):
-    sys.exit(__doc__)
-main(int(words[0]), int(words[1]), *words[2:])
+if __name__ == '__main__':
+    words = sys.argv[1:]
+    if (len(words) not in (2, 3) or words[2:] not in ([], ['ended'], ['several'])
+            or not all(word.isdecimal() for word in words[:2])
+            or int(words[0]) == 0 != int(words[1])):
+        sys.exit(__doc__)
+    main(int(words[0]), int(words[1]), *words[2:])
