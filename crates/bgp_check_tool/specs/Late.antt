@@ -1,8 +1,9 @@
 -- What a verdict on an end that isn't a yes becomes, where each message may be handled as late as
--- it can be said: it is judged once more, of records that are made so.
+-- it can be said: it is judged once more, of records that are made so, and over all orders.
 use Rattle.std.specs.Prelude.{◌≡◌, ◌⊎◌, ℕ, Bool, true, false, List, [], Option, None, Some}
 use Rattle.bgp_prefix.specs.declared.session.Session.{Session}
 use Rattle.streams.specs.declared.connection.Connection.{Connection}
+use Rattle.bgp_open.specs.declared.config.Config.{Config}
 use Rattle.bgp_judge.specs.Verdict.{No, Unfinished, VerdictValue, Yes}
 use Rattle.bgp_recording.specs.Captured.{records_of}
 use Rattle.bgp_recording.specs.declared.entry.Entry.{Entry}
@@ -10,11 +11,13 @@ use Rattle.bgp_recording.specs.declared.framing.Framings.{Framings}
 use Rattle.bgp_recording.specs.declared.framing.Unshown.{Unshown}
 use Rattle.bgp_orders.specs.WholeWays.{AreOfAWayOver}
 use Rattle.bgp_check.specs.Answered.{AnswerValue, IsAnswerTo, JudgedAs, Unjudged}
-use Rattle.bgp_check_tool.specs.Another.{IsYes}
+use Rattle.bgp_check.specs.declared.peer_as.PeerAs.{PeerAs}
+use Rattle.bgp_check_tool.specs.Another.{IsNo, IsNoYes, IsYes, number_in}
 use Rattle.bgp_check_lines.specs.Values.{late_line}
 use Rattle.bgp_check_tool.specs.declared.late.Late.{Late}
 use Rattle.bgp_check_tool.specs.declared.late.Late.TheVariants as lates
 use Rattle.bgp_check_tool.specs.Made.{IsMade}
+use Rattle.bgp_check_tool.specs.Orders.{IsUnfinished}
 
 -- ---- what it becomes
 
@@ -34,25 +37,43 @@ late_by verdict (JudgedAs number peer under later) = late_over verdict later
 
 -- Of the end of this session that has the connection so.
 module _ (session : Session) (connection : Connection) where
-  -- a yes is answered of the records of another order, framed so
-  pub record IsAnsweredByAnother (framings : Framings) (answer : AnswerValue) : Type 0 where
-    pub entries : List Entry
-    pub received_unshown : Unshown
-    pub sent_unshown : Unshown
-    pub way : AreOfAWayOver framings 65535 connection entries received_unshown sent_unshown
-    pub answers : IsAnswerTo session (records_of entries) answer
-    pub is_yes : IsYes answer
+  -- Of the made order, framed so, this is answered. It is no yes, and another order is: that is
+  -- answered of its records.
+  pub record IsAnsweredByAnother (framings : Framings) (of_made answer : AnswerValue) : Type 0
+    where
+      pub no_yes : IsNoYes of_made
+      pub entries : List Entry
+      pub received_unshown : Unshown
+      pub sent_unshown : Unshown
+      pub way : AreOfAWayOver framings 65535 connection entries received_unshown sent_unshown
+      pub answers : IsAnswerTo session (records_of entries) answer
+      pub is_yes : IsYes answer
 
-  -- This is answered of the records that are made of it where a message may be handled up to 65535
-  -- seconds after it came. Or that is unfinished, and a yes is answered in another order.
+  -- it is a no, and over all orders it is unfinished, under this configuration
+  pub record IsAnsweredByAll (framings : Framings) (of_made answer : AnswerValue) : Type 0 where
+    pub is_no : IsNo of_made
+    pub peer : PeerAs
+    pub under : Config
+    pub over : IsUnfinished session 65535 framings connection peer under
+    pub is : answer ≡ JudgedAs (number_in of_made) peer under Unfinished
+
+  -- this is answered over all orders, if that is answered of the made one
+  abbrev pub IsAnsweredOver : Framings → AnswerValue → AnswerValue → Type 0
+  IsAnsweredOver framings of_made answer =
+      (answer ≡ of_made) ⊎ IsAnsweredByAnother framings of_made answer
+      ⊎ IsAnsweredByAll framings of_made answer
+
+  -- A message may be handled up to 65535 seconds after it came: this is answered then, over all
+  -- orders or of the made one.
   pub record IsAnsweredLater (answer : AnswerValue) : Type 0 where
     pub entries : List Entry
     pub received_unshown : Unshown
     pub sent_unshown : Unshown
     pub framings : Framings
     pub made : IsMade 65535 connection framings entries received_unshown sent_unshown
-    pub answers : IsAnswerTo session (records_of entries) answer
-        ⊎ IsAnsweredByAnother framings answer
+    pub of_made : AnswerValue
+    pub answers : IsAnswerTo session (records_of entries) of_made
+    pub over : IsAnsweredOver framings of_made answer
 
   -- so that the verdict becomes this, or stays
   pub record IsLateOf (verdict : VerdictValue) (late : Option Late) : Type 0 where

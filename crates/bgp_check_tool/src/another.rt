@@ -88,17 +88,6 @@ fn is_no_yes<A: Allocator>(answer: &Answer<A>) -> bool
     }
 }
 
-/// Whether it is judged and unfinished.
-pub(crate) fn is_unfinished<A: Allocator>(answer: &Answer<A>) -> bool {
-    match answer {
-        Answer::NotJudged(_) => false,
-        Answer::Judged(judged) => match &judged.verdict {
-            Verdict::Unfinished => true,
-            Verdict::Yes(_) | Verdict::No(_) => false,
-        },
-    }
-}
-
 /// Returns the records of an order that is whole under this configuration, if they are a yes.
 fn another_under<'a, A: Allocator + Copy, T: Tracker<A>>(
     alloc: A,

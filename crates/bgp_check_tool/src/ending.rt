@@ -287,7 +287,7 @@ fn told_of<'a, A: Allocator + Copy>(
 }
 
 /// The AS number that its OPEN tells, if it is judged and sent one.
-fn number_in<A: Allocator>(answer: &Answer<A>) -> Option<u32>
+pub(crate) fn number_in<A: Allocator>(answer: &Answer<A>) -> Option<u32>
     ensures { result ≡ number_in (answer_value answer.now) }
 {
     match answer {
@@ -315,7 +315,7 @@ fn reached_on<A: Allocator + Copy, T: Tracker<A>>(
 }
 
 /// That an end with this AS number is unfinished, under this configuration.
-fn unfinished<A: Allocator>(as_number: Option<u32>, its: Under) -> Answer<A>
+pub(crate) fn unfinished<A: Allocator>(as_number: Option<u32>, its: Under) -> Answer<A>
     ensures { answer_value result ≡ JudgedAs as_number its.peer_as its.under Unfinished }
 {
     Answer::Judged(Judged {

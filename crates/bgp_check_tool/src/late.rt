@@ -1,16 +1,16 @@
 //! What the verdict on an end is, where each message may be handled as late as it can be said.
 
-ghost use Rattle.std.specs.Prelude.{◌≡◌, ◌⊎◌, IfOk};
+ghost use Rattle.std.specs.Prelude.{◌≡◌, IfOk};
 ghost use Rattle.bgp_check.specs.Answered.{answer_value};
 ghost use Rattle.bgp_judge.specs.Verdict.{verdict_value};
 ghost use Rattle.bgp_recording.specs.Gathered.{IsClocked, IsCovered};
 ghost use Rattle.bgp_check_lines.specs.Lines.{PutsLines};
-ghost use Rattle.bgp_check_tool.specs.Late.{IsAnsweredByAnother, IsAnsweredLater, IsLate};
+ghost use Rattle.bgp_check_tool.specs.Late.{IsAnsweredLater, IsAnsweredOver, IsLate};
 ghost use Rattle.bgp_check_tool.specs.Late.{IsLateFor, IsLateOf, late_by};
 ghost use Rattle.bgp_check_tool.specs.Late.{late_over, late_text};
 
-use crate::another::{Searched, is_unfinished, search_orders};
-use crate::ending::Viewed;
+use crate::another::{Searched, search_orders};
+use crate::ending::{Viewed, number_in, unfinished};
 use crate::making::made_of;
 use crate::options::CheckOptions;
 use bgp_check::{Answer, check_end};
@@ -56,9 +56,10 @@ fn late_by<A: Allocator>(verdict: &Verdict<A>, later: &Answer<A>) -> Option<Late
     }
 }
 
-/// What is answered in another order, framed so, where each message may be handled as late as it can
-/// be said: if this is unfinished and another order is a yes. Else this.
-fn or_another<A: Allocator + Copy, T: Tracker<A>>(
+/// Returns what is answered over all orders, framed so, where each message may be handled as late as
+/// it can be said, if this is answered of the made one: a yes of another, if the made one isn't a
+/// yes; that it is unfinished over all, if the made one is a no. Else what is answered of that.
+fn over_orders<A: Allocator + Copy, T: Tracker<A>>(
     alloc: A,
     viewed: &Viewed<'_>,
     framings: Framings,
@@ -66,13 +67,9 @@ fn or_another<A: Allocator + Copy, T: Tracker<A>>(
 ) -> Answer<A>
     requires received { IsCovered viewed.now.connection.received }
     requires sent { IsCovered viewed.now.connection.sent }
-    ensures { IsClocked viewed.now.connection → (answer_value result ≡ answer_value answer)
-        ⊎ IsAnsweredByAnother viewed.now.session viewed.now.connection framings
-        (answer_value result) }
+    ensures { IsClocked viewed.now.connection → IsAnsweredOver viewed.now.session
+        viewed.now.connection framings (answer_value answer) (answer_value result) }
 {
-    if !is_unfinished(&answer) {
-        return answer;
-    }
     let options = CheckOptions {
         within: GREATEST,
         ..viewed.options
@@ -80,7 +77,8 @@ fn or_another<A: Allocator + Copy, T: Tracker<A>>(
     let later = Viewed { options, ..*viewed };
     match search_orders::<A, T>(alloc, &later, framings, &answer) {
         Searched::Another(another) => another.answer,
-        Searched::Nothing | Searched::NoOrder(_) | Searched::Unfinished(_) => answer,
+        Searched::Unfinished(its) => unfinished(number_in(&answer), its),
+        Searched::Nothing | Searched::NoOrder(_) => answer,
     }
 }
 
@@ -98,7 +96,7 @@ fn answered_later<A: Allocator + Copy, T: Tracker<A>>(
     let made = made_of(alloc, &viewed.connection, GREATEST)?;
     let records = made.recording.records.as_slice();
     let answer = check_end::<A, T>(alloc, &viewed.session, records)?;
-    Ok(or_another::<A, T>(alloc, viewed, made.framings, answer))
+    Ok(over_orders::<A, T>(alloc, viewed, made.framings, answer))
 }
 
 /// What this verdict that isn't a yes becomes, where each message may be handled as late as it can
