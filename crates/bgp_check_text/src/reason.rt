@@ -57,7 +57,9 @@ impl<A: Allocator> Reason<A> {
     {
         self.deed.as_slice()
     }
+}
 
+impl<A: Allocator + Copy> Reason<A> {
     /// Returns the lines after that.
     pub fn lines(&self) -> &[u8]
         ensures { result.now ≡ lines_text self.now }
@@ -67,9 +69,7 @@ impl<A: Allocator> Reason<A> {
             Some(kept) => kept.text(),
         }
     }
-}
 
-impl<A: Allocator + Copy> Reason<A> {
     /// Puts these lines in the form of what they are put into. It takes memory: if that runs out, it
     /// returns `AllocError`, and puts nothing.
     pub fn put_lines<W: Sink>(
@@ -264,7 +264,7 @@ pub fn put_deed<W: Sink, A: Allocator>(lines: &mut Lines<'_, W>, reason: &Reason
 }
 
 /// Puts the lines after that.
-pub fn put_reason<W: Sink, A: Allocator>(lines: &mut Lines<'_, W>, reason: &Reason<A>)
+pub fn put_reason<W: Sink, A: Allocator + Copy>(lines: &mut Lines<'_, W>, reason: &Reason<A>)
     ensures { Writes lines.old lines.new (lines_text reason.now) }
 {
     lines.put(reason.lines());

@@ -1,14 +1,20 @@
 -- Texts that stand behind a mark.
-use Rattle.std.proofs.Common.{◌≡◌, ◌∙◌, ◌++◌, ◌&&◌, ◌<◌, ℕ, Bool, true, false, List, [], ◌∷◌, Option, None, Some, IsTrue, ap, append_assoc, arith, codes, if◌then◌else◌, inl, inr, is_some, length, refl, subst, sym}
+use Rattle.std.proofs.Common.{◌≡◌, ◌∙◌, ◌++◌, ◌&&◌, ◌<◌, ℕ, Bool, true, false, List, [], ◌∷◌, Option, None, Some, IsTrue, ap, append_assoc, arith, codes, if◌then◌else◌, inl, inr, is_some, length, map, refl, subst, sym}
 use Rattle.bgp_machine.specs.declared.fsm.Fsm.{Fsm}
 use Rattle.bgp_machine.specs.declared.fsm.Fsm.TheVariants as states
-use Rattle.bgp_parts.specs.UpdateParts.{Part}
+use Rattle.bgp_parts.specs.UpdateParts.{Part, shown_part}
 use Rattle.bgp_update.specs.declared.subcodes.Subcodes.{Subcodes}
 use Rattle.bgp_why_parts.specs.Cut.{cut}
+use Rattle.bgp_why_parts.specs.Notifications.{notification_parts_text}
+use Rattle.bgp_why_parts.specs.Opens.{open_parts_text}
+use Rattle.bgp_why_parts.specs.OwnFaults.{as_piece, hold_piece, id_piece}
+use Rattle.bgp_why_parts.specs.Updates.{update_parts_text}
 use Rattle.bgp_why_parts.specs.Parts.{behind, shown, shown_update}
 use Rattle.bgp_why_parts.specs.Pieces.{separated}
 use Rattle.bgp_why_parts.specs.declared.own_faults.OwnFaults.{OwnFaults}
-use Rattle.bgp_why.specs.Applying.{applied_text, disabled_text, may_disable, or_else, outcomes_text, refused_piece, these, update_asks}
+use Rattle.bgp_why.specs.Items.{has_update_error}
+use Rattle.bgp_why.specs.Errors.{update_errors_text}
+use Rattle.bgp_why.specs.Applying.{applied_piece, applied_text, disabled_text, may_disable, or_else, outcomes_text, refused_piece, these, update_asks}
 use Rattle.bgp_why.specs.Asked.{asked_text, keepalive_text, link_text, update_text}
 use Rattle.bgp_why.specs.Lacks.{but_text, lacks_text, resembles}
 use Rattle.bgp_why.specs.declared.applying.Applying.{Applying}
@@ -82,9 +88,14 @@ refused_has refused others false is = absurd (let e : false ≡ true = is in (le
 
 outcome_front : (applied : Option Applying) (refused : Subcodes) → HasOutcome applied refused → (said : List ℕ) × (outcomes_text applied refused ≡ codes ": " ++ said)
 outcome_front (Some a) refused has =
-    front _ (one_of_four _ _ _ _ (refused_piece refused) a.certain.v4 a.certain.v6 a.optional.v4 a.optional.v6)
+    let text = applied_text a.as_withdrawal in
+    front
+    (applied_piece (Some a) (these false false) ∷ applied_piece (Some a) (these true false) ∷ applied_piece (Some a) (these false true) ∷ applied_piece (Some a) (these true true)
+    ∷ refused_piece refused ∷ [])
+    (one_of_four (text ++ disabled_text (these false false)) (text ++ disabled_text (these true false)) (text ++ disabled_text (these false true)) (text ++ disabled_text (these true true))
+    (refused_piece refused) a.certain.v4 a.certain.v6 a.optional.v4 a.optional.v6)
 outcome_front None refused (inl none) = absurd (let e : false ≡ true = none in (let k : ⊥ = cc in k))
-outcome_front None refused (inr has) = front (refused_piece refused ∷ []) (refused_has refused _ _ has)
+outcome_front None refused (inr has) = front (refused_piece refused ∷ []) (refused_has refused (codes "to be refused with NOTIFICATION " ++ update_errors_text refused) (has_update_error refused) has)
 
 some_behind : (text : List ℕ) (x : ℕ) (more : List ℕ) → 0 < length (text ++ x ∷ more)
 some_behind [] x more = omega arith
@@ -121,15 +132,16 @@ none_may (Some piece ∷ pieces) = inr (record { said = _; is_its = refl; some =
 
 lacks_marked : {X : Type 0} (faults : Option OwnFaults) (lacks : Lacks X) → IsLacked (lacks_text (codes "; this one: ") (codes "; none may have ") faults lacks)
 lacks_marked faults lacked.Nothing = inl refl
-lacks_marked None (lacked.Open parts) = this_one _
-lacks_marked (Some faults) (lacked.Open parts) = none_may _
-lacks_marked faults (lacked.Update parts) = this_one _
-lacks_marked faults (lacked.Notification code parts) = this_one _
+lacks_marked None (lacked.Open parts) = this_one (open_parts_text parts)
+lacks_marked (Some faults) (lacked.Open parts) =
+    none_may (as_piece faults.as_numbers ∷ id_piece faults.id ∷ hold_piece faults.hold ∷ [])
+lacks_marked faults (lacked.Update parts) = this_one (update_parts_text true (map shown_part parts.items))
+lacks_marked faults (lacked.Notification code parts) = this_one (notification_parts_text code parts)
 
 if_so : (is_so : Bool) (text : List ℕ) → IsLacked text → IsLacked (if is_so then text else [])
 if_so true text is = is
 if_so false text is = inl refl
 
 pub lacks_are_marked : LacksAreMarked
-lacks_are_marked faults lacks item =
+lacks_are_marked X faults lacks item =
     if_so (resembles lacks item) (lacks_text (codes "; this one: ") (codes "; none may have ") faults lacks) (lacks_marked faults lacks)

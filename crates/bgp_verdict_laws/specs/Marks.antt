@@ -42,5 +42,5 @@ UpdateAsksAreMarked =
 -- what a record lacks of an item
 abbrev pub LacksAreMarked : Type 1
 LacksAreMarked =
-    {X : Type 0} (faults : Option OwnFaults) (lacks : Lacks X) (item : Item)
+    (X : Type 0) (faults : Option OwnFaults) (lacks : Lacks X) (item : Item)
     → IsBehindIfAny (codes "; ") (but_text faults lacks item)
