@@ -4,4 +4,4 @@ pub mod Puts
 pub mod Printed
 mod Texts
 pub mod SameSink
-mod Reason
+mod Explaining

@@ -1,6 +1,6 @@
 use Rattle.std.proofs.Common.{rules}
 use Rattle.bgp_check_text.specs.Reason.{lines_text}
-use Rattle.bgp_check_lines.proofs.Reason.{told_made}
+use Rattle.bgp_check_lines.proofs.Explaining.{told_made}
 use Rattle.bgp_check_lines.proofs.reason.tell_reason.Goals as goal
 
 pub returns : goal.returns

@@ -23,7 +23,7 @@ use Rattle.bgp_check_lines.proofs.Values.{one_value}
 -- ---- as they are put
 
 module _ {W : Type 0} {sink : sinks.Ghosts W} (a b : Lines W sink) (judged : ℕ) (text : List ℕ) where
-  of_objects : (x y : Bool) (lines : List LineValue) → flat_map line_text lines ≡ text → x ≡ false → (if y then 4 else 0) ≡ 0
+  of_objects : (x y : Bool) (lines : List LineValue) → flat_map line_text lines ≡ text → x ≡ false → ◌≡◌ {A = ℕ} (if y then 4 else 0) 0
       → PutsObjects a b (objects_from (counts_behind judged) lines) x y → (printed : List ℕ) × AreToldAs judged text printed × Writes a b printed
   of_objects false false lines is calm done puts = (lines_of (objects_from (counts_behind judged) lines), (lines, is, refl, puts.1), puts.0)
   of_objects x true lines is calm done puts = absurd (let k : ⊥ = cc in k)
