@@ -1,8 +1,8 @@
 -- Texts that stand behind a mark.
-use Rattle.std.proofs.Common.{◌≡◌, ◌∙◌, ◌++◌, ◌&&◌, ◌<◌, ℕ, Bool, true, false, List, [], ◌∷◌, Option, None, Some, IsTrue, ap, append_assoc, arith, codes, if◌then◌else◌, inl, inr, is_some, length, map, refl, subst, sym}
+use Rattle.std.proofs.Common.{◌≡◌, ◌++◌, ◌&&◌, ◌<◌, ℕ, Bool, true, false, List, [], ◌∷◌, Option, None, Some, IsTrue, ap, arith, codes, if◌then◌else◌, inl, inr, length, map, refl}
 use Rattle.bgp_machine.specs.declared.fsm.Fsm.{Fsm}
 use Rattle.bgp_machine.specs.declared.fsm.Fsm.TheVariants as states
-use Rattle.bgp_parts.specs.UpdateParts.{Part, shown_part}
+use Rattle.bgp_parts.specs.UpdateParts.{shown_part}
 use Rattle.bgp_update.specs.declared.subcodes.Subcodes.{Subcodes}
 use Rattle.bgp_why_parts.specs.Cut.{cut}
 use Rattle.bgp_why_parts.specs.Notifications.{notification_parts_text}
@@ -14,16 +14,14 @@ use Rattle.bgp_why_parts.specs.Pieces.{separated}
 use Rattle.bgp_why_parts.specs.declared.own_faults.OwnFaults.{OwnFaults}
 use Rattle.bgp_why.specs.Items.{has_update_error}
 use Rattle.bgp_why.specs.Errors.{update_errors_text}
-use Rattle.bgp_why.specs.Applying.{applied_piece, applied_text, disabled_text, may_disable, or_else, outcomes_text, refused_piece, these, update_asks}
-use Rattle.bgp_why.specs.Asked.{asked_text, keepalive_text, link_text, update_text}
-use Rattle.bgp_why.specs.Lacks.{but_text, lacks_text, resembles}
+use Rattle.bgp_why.specs.Applying.{applied_piece, applied_text, disabled_text, may_disable, or_else, outcomes_text, refused_piece, these}
+use Rattle.bgp_why.specs.Asked.{keepalive_text, link_text, update_text}
+use Rattle.bgp_why.specs.Lacks.{lacks_text, resembles}
 use Rattle.bgp_why.specs.declared.applying.Applying.{Applying}
-use Rattle.bgp_why.specs.declared.asked.Received.{Received}
 use Rattle.bgp_why.specs.declared.asked.Received.TheVariants as messages
-use Rattle.bgp_why.specs.declared.items.Item.{Item}
 use Rattle.bgp_why.specs.declared.lacks.Lacks.{Lacks}
 use Rattle.bgp_why.specs.declared.lacks.Lacks.TheVariants as lacked
-use Rattle.bgp_verdict_laws.specs.Marks.{AsksAreMarked, HasOutcome, IsBehind, IsBehindIfAny, LacksAreMarked, UpdateAsksAreMarked}
+use Rattle.bgp_verdict_laws.specs.Marks.{AsksAreMarked, HasOutcome, IsBehindIfAny, IsLackMarked, UpdateAsksAreMarked}
 
 -- ---- what a message asks for
 
@@ -142,6 +140,6 @@ if_so : (is_so : Bool) (text : List ℕ) → IsLacked text → IsLacked (if is_s
 if_so true text is = is
 if_so false text is = inl refl
 
-pub lacks_are_marked : LacksAreMarked
-lacks_are_marked X faults lacks item =
+pub lack_is_marked : {X : Type 0} (lacks : Lacks X) → IsLackMarked lacks
+lack_is_marked lacks faults item =
     if_so (resembles lacks item) (lacks_text (codes "; this one: ") (codes "; none may have ") faults lacks) (lacks_marked faults lacks)

@@ -40,7 +40,7 @@ UpdateAsksAreMarked =
     → HasOutcome applied refused → IsBehind (codes ": ") (update_asks applied refused parts)
 
 -- what a record lacks of an item
-abbrev pub LacksAreMarked : Type 1
-LacksAreMarked =
-    (X : Type 0) (faults : Option OwnFaults) (lacks : Lacks X) (item : Item)
+abbrev pub IsLackMarked : {X : Type 0} → Lacks X → Type 0
+IsLackMarked lacks =
+    (faults : Option OwnFaults) (item : Item)
     → IsBehindIfAny (codes "; ") (but_text faults lacks item)

@@ -2,9 +2,11 @@
 
 ghost use Rattle.bgp_verdict_laws.specs.Laws.{LinesAreDetermined, OutputsAreDetermined};
 ghost use Rattle.bgp_verdict_laws.specs.Laws.{PrintedIsDetermined};
-ghost use Rattle.bgp_verdict_laws.specs.Marks.{AsksAreMarked, LacksAreMarked};
-ghost use Rattle.bgp_verdict_laws.specs.Marks.{UpdateAsksAreMarked};
+ghost use Rattle.bgp_verdict_laws.specs.Marks.{AsksAreMarked, IsLackMarked, UpdateAsksAreMarked};
 ghost use Rattle.bgp_verdict_laws.specs.Numbers.{LinesHaveNumbers};
+
+use bgp_why::Lacks;
+use std::alloc::Allocator;
 
 /// States that the object of a line determines the line's text: of a verdict, an end, a route, a
 /// line of a reason, a connection, or a refusal.
@@ -25,11 +27,17 @@ pub fn each_number_is_one_of_json()
     ensures { LinesHaveNumbers }
 {}
 
-/// States that what an object leaves out of a text stands there: `: ` before what a message asks
-/// for, and before what an UPDATE asks for, if it may be applied or refused; and `; ` before what a
-/// record lacks of an item.
+/// States that what an object leaves out stands before what a message asks for, a colon and a blank;
+/// and so before what an UPDATE asks for, if it may be applied or refused.
 pub fn each_text_has_its_mark()
     ensures asks { AsksAreMarked }
     ensures update { UpdateAsksAreMarked }
-    ensures lacks { LacksAreMarked }
 {}
+
+/// States that what an object leaves out stands before what a record lacks of an item, a semicolon
+/// and a blank.
+pub fn each_lack_has_its_mark<A: Allocator>(lacks: &Lacks<'_, A>)
+    ensures { IsLackMarked lacks.now }
+{
+    let _lacks = lacks;
+}

@@ -8,6 +8,6 @@
 mod laws;
 
 pub use laws::{
-    each_line_determines_its_text, each_number_is_one_of_json, each_output_determines_its_text,
-    each_text_has_its_mark,
+    each_lack_has_its_mark, each_line_determines_its_text, each_number_is_one_of_json,
+    each_output_determines_its_text, each_text_has_its_mark,
 };

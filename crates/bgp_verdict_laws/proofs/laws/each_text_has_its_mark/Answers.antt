@@ -1,4 +1,4 @@
-use Rattle.bgp_verdict_laws.proofs.Marks.{asks_marked, lacks_are_marked, update_asks_marked}
+use Rattle.bgp_verdict_laws.proofs.Marks.{asks_marked, update_asks_marked}
 use Rattle.bgp_verdict_laws.proofs.laws.each_text_has_its_mark.Goals as goal
 
 pub returns-clause-asks : goal.returns-clause-asks
@@ -6,6 +6,3 @@ returns-clause-asks c = asks_marked
 
 pub returns-clause-update : goal.returns-clause-update
 returns-clause-update c = update_asks_marked
-
-pub returns-clause-lacks : goal.returns-clause-lacks
-returns-clause-lacks c = lacks_are_marked
