@@ -2,7 +2,7 @@ use Rattle.std.proofs.Common.{◌≡◌, ◌∙◌, true, ℕ, List, ap, map, su
 use Rattle.bgp_prefix.specs.Shown.{ShownRecord}
 use Rattle.mrt.specs.Reader.{shown_of}
 use Rattle.bgp_check.specs.Answered.{IsAnswerTo, answer_value}
-use Rattle.bgp_check_text.specs.Reason.{IsReasonTo}
+use Rattle.bgp_check_text.specs.Reason.{IsReasonTo, lines_text}
 use Rattle.bgp_explain.specs.Places.{shown_places}
 use Rattle.bgp_recording.specs.Captured.{records_of}
 use Rattle.bgp_recording.specs.declared.entry.Entry.{Entry}
@@ -25,7 +25,7 @@ returns g c =
     let limit = c.args.framings.sent.limit in
     let entries = c.args.recording.now.entries.items in
     let deed = c.in_ok-reason.reason.deed.items in
-    let lines = c.in_ok-reason.reason.lines.items in
+    let lines = lines_text c.in_ok-reason.reason in
     let same : map shown_of c.as_slice-records.result.now ≡ records_of entries = ap (map shown_of) c.as_slice-records.ensures.value ∙ c.requires.records in
     let raw = c.in_ok-reason.ensures session (subst (λ (rs : List ShownRecord). IsAnswerTo session rs answer) (sym same) c.requires.answers) in
     let placed = subst (λ (es : List Entry). IsReasonTo session limit c.second_at-first.result true c.peer_end-peer.result (shown_places es) c.args.instead (map shown_of c.as_slice-records.result.now) answer deed lines)
