@@ -9,3 +9,4 @@ mod Phases
 mod Sending
 mod WayEnds
 mod WholeState
+pub mod MadeUnfinished

@@ -2,3 +2,4 @@ pub mod EveryEnd
 pub mod OneState
 pub mod WayEnds
 pub mod Connections
+pub mod MadeUnfinished

@@ -2,6 +2,7 @@
 
 ghost use Rattle.bgp_way_ends.specs.Connections.{MadeOrderListsAllEnds, WayListsAllEnds};
 ghost use Rattle.bgp_way_ends.specs.EveryEnd.{MadeYesListsEveryEnd, WayYesListsEveryEnd};
+ghost use Rattle.bgp_way_ends.specs.MadeUnfinished.{MadeUnfinishedIsNoNo};
 ghost use Rattle.bgp_way_ends.specs.OneState.{EachWholeWayTellsAllEnds, WholeWaysEndInOneState};
 ghost use Rattle.bgp_way_ends.specs.WayEnds.{EntriesTellAllEnds, OneWayForEachState};
 ghost use Rattle.bgp_way_ends.specs.WayEnds.{OneWayTellsAllEnds, WholeWaysEndAlike};
@@ -73,3 +74,10 @@ pub fn a_yes_lists_all_ends()
     runs_of_entries_are_whole();
     a_yes_lists_all_ends_in_its_states();
 }
+
+/// States that where the order that is made is unfinished, it is no no over all orders that the
+/// packets allow: some order is a yes, or it is unfinished over all. So whether a message is blamed
+/// doesn't rest on which order is made.
+pub fn a_made_unfinished_is_no_no()
+    ensures { MadeUnfinishedIsNoNo }
+{}

@@ -11,6 +11,6 @@
 mod laws;
 
 pub use laws::{
-    a_yes_lists_all_ends, a_yes_lists_all_ends_in_its_states, one_way_for_each_state_is_enough,
-    whole_ways_end_alike, whole_ways_end_in_one_state,
+    a_made_unfinished_is_no_no, a_yes_lists_all_ends, a_yes_lists_all_ends_in_its_states,
+    one_way_for_each_state_is_enough, whole_ways_end_alike, whole_ways_end_in_one_state,
 };
