@@ -1,0 +1,24 @@
+-- The parameters of a function by their places, and what follows a part of a body. Assumes `Logic`.
+use Rattle.std.proofs.Common.{◌≡◌, ℕ, zero, suc, List, [], ◌∷◌, refl}
+use seplogic.Ra.Ura.{Ura}
+use mir.Syntax.{Body}
+use prog.Wp.{Env, Calls, Loops, Wp, after_seq}
+use types.Logic.{Logic}
+use types.Kit.{Post, any_q, post}
+use denote.Builtin.{unit}
+use denote.Signature.{Slot, plain}
+
+abbrev pub slot_at : {n : ℕ} → ℕ → List (Slot n) → Slot n
+slot_at k [] = plain (λ _. unit)
+slot_at zero (s ∷ ss) = s
+slot_at (suc k) (s ∷ ss) = slot_at k ss
+
+pub by_list : {X : Type 1} {Y : Type 0} (l : List Y) → (l ≡ [] → X) → ((h : Y) (hs : List Y) → l ≡ h ∷ hs → X) → X
+by_list [] none more = none refl
+by_list (h ∷ hs) none more = more h hs refl
+
+module _ {M : Type 1} {𝓤 : Ura M} (𝓛 : Logic 𝓤) where
+  open 𝓛 use {H}
+
+  abbrev pub then_runs : Calls 𝓤 H → Loops 𝓤 H → Env 𝓤 H → Body → Post 𝓤 H → Post 𝓤 H
+  then_runs C Λ E b q = any_q (after_seq 𝓤 H (Wp 𝓤 H C Λ E b (post 𝓤 H q)) (post 𝓤 H q))

@@ -1,0 +1,4 @@
+pub mod Blocks
+pub mod Chain
+pub mod Octets
+pub mod Sizes
