@@ -179,7 +179,7 @@ cause_read : (test : Bool) (octets : List ℕ) (cause : ErrorFields) → AreOcte
 cause_read true octets cause are e = fields_read octets cause are e
 cause_read false octets cause are e = absurd (none-some cause e)
 
-of_error : (e : ErrorFields) → AreError e → HaveDecimals (error_members e)
+pub of_error : (e : ErrorFields) → AreError e → HaveDecimals (error_members e)
 of_error e is =
     of_both (plain_error_members e) (cause_members (cause_of e)) (of_plain_error e is)
     (of_cause (cause_of e) (λ cause found. cause_read ((e.code == 6) && (e.subcode == 9)) e.detail cause is.2 found))

@@ -60,7 +60,7 @@ pub time_made : (second : ℕ) (micro : Option ℕ)
     → IsMade (codes "second" ∷ codes "micro" ∷ []) (Some (number_of second) ∷ micro_json micro ∷ []) (time_members second micro)
 time_made second micro = having (codes "second") (number_of second) (micro_made micro)
 
-abbrev micro_in : Option Json → Option ℕ
+abbrev pub micro_in : Option Json → Option ℕ
 micro_in None = None
 micro_in (Some value) = Some (number_in (Some value))
 
@@ -79,7 +79,7 @@ clock_in second micro = clock_text (number_in second) (micro_in micro)
 abbrev pub when_in : Option Json → Option Json → List ℕ
 when_in second micro = when_text (number_in second) (micro_in micro)
 
-clock_back : (second : ℕ) (micro : Option ℕ) → second < 2 ^ 64 → clock_in (Some (number_of second)) (micro_json micro) ≡ clock_text second micro
+pub clock_back : (second : ℕ) (micro : Option ℕ) → second < 2 ^ 64 → clock_in (Some (number_of second)) (micro_json micro) ≡ clock_text second micro
 unfolding clock_text
 clock_back second micro small =
     ap₂ (λ (n : ℕ) (t : List ℕ). hours_text n ++ t) (number_back second small) (fraction_back micro)

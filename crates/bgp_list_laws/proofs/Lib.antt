@@ -1,0 +1,9 @@
+pub mod Endpoints
+pub mod Ended
+pub mod Causes
+pub mod Reading
+pub mod Numbers
+pub mod Lines
+pub mod Sessions
+pub mod Printed
+pub mod Captures

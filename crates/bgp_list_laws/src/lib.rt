@@ -1,0 +1,11 @@
+//! Laws of what [`bgp_list`] puts as text or in JSON: what is printed in JSON determines the text.
+//!
+//! So nothing that `bgp list` prints is lost with `--json`: neither of a line, nor of a whole list.
+#![tactic(auto)]
+
+mod laws;
+
+pub use laws::{
+    each_line_determines_its_text, each_list_determines_its_text, each_refusal_determines_its_text,
+    each_session_determines_its_text, each_session_list_determines_its_text,
+};
