@@ -1,0 +1,4 @@
+mod Cut
+mod Parts
+mod Reasons
+mod Lines
