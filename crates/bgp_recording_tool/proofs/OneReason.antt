@@ -1,7 +1,5 @@
 -- What explains the verdict on a connection is one text.
-use Rattle.std.proofs.Common.{◌≡◌, ◌≢◌, ◌∙◌, ℕ, zero, suc, List, [], ◌∷◌, Option, None, Some, map, slice_get, true, inl, inr, refl, sym, ap, subst}
-use Rattle.packets.specs.Packet.{Recorded}
-use Rattle.streams.specs.Passed.{Segment}
+use Rattle.std.proofs.Common.{◌≡◌, ◌≢◌, ◌∙◌, ℕ, zero, suc, List, [], ◌∷◌, Some, map, slice_get, true, inl, inr, refl, sym, ap, subst}
 use Rattle.bgp_prefix.specs.Shown.{ShownRecord}
 use Rattle.bgp_prefix.specs.declared.session.Session.{Session}
 use Rattle.bgp_prefix.specs.declared.session.RouteRefresh.TheVariants as refreshes
@@ -10,9 +8,7 @@ use Rattle.mrt.specs.Written.{capture_octets}
 use Rattle.bgp_open.specs.declared.config.Config.{Config}
 use Rattle.bgp_judge.specs.Verdict.{HasOneVerdict, HasVerdict, VerdictValue, Yes, No, Unfinished}
 use Rattle.bgp_import.specs.Once.{RecordingsAreMadeOnce}
-use Rattle.bgp_import.specs.Selecting.{AreTaken}
-use Rattle.bgp_import.specs.declared.importing.Import.{Import}
-use Rattle.bgp_recording.specs.Captured.{CanBeNamed, MadeRecordsAreRead, records_of}
+use Rattle.bgp_recording.specs.Captured.{MadeRecordsAreRead, records_of}
 use Rattle.bgp_recording.specs.Pieces.{framings_of}
 use Rattle.bgp_recording.specs.Recorded.{IsRecorded}
 use Rattle.bgp_recording.specs.Tells.{Numbered, numbered_of}
@@ -28,8 +24,7 @@ use Rattle.bgp_explain.specs.Places.{place_with, shown_place, shown_places}
 use Rattle.bgp_explain.specs.Records.{SaysOfRecords, SaysOrNot}
 use Rattle.bgp_explain.specs.Text.{no_memory_line}
 use Rattle.bgp_explain.specs.declared.report.Report.TheVariants.{WithReason}
-use Rattle.bgp_recording_tool.specs.declared.remark.Remark.{Remark}
-use Rattle.bgp_recording_tool.specs.Connections.{IsMore, IsMoreOf, IsReported}
+use Rattle.bgp_recording_tool.specs.Connections.{IsMore, IsMoreOf}
 use Rattle.bgp_recording_tool.specs.Found.{Found, Nothing, ByNone, ByAnother, ByAll}
 use Rattle.bgp_recording_tool.specs.Laws.{AreOfOneOrder, RecordingsAreExplainedInOneWay}
 use Rattle.bgp_recording_tool.proofs.SameVerdict.{by_packets, records_by}

@@ -1,5 +1,5 @@
 -- What the search of all orders finds, of a connection that is chosen; and what is put of it.
-use Rattle.std.proofs.Common.{◌≡◌, ℕ, List, Option, Some, IfSome, length, reverse, sym, subst}
+use Rattle.std.proofs.Common.{◌≡◌, ℕ, List, Option, Some, IfOk, IfSome, Result, Ok, Err, inl, inr, length, reverse, sym, subst}
 use Rattle.packets.specs.Packet.{Recorded}
 use Rattle.streams.specs.Choice.{IsAnswered}
 use Rattle.streams.specs.Connections.{numbered}
@@ -26,9 +26,10 @@ use Rattle.bgp_recording_tool.specs.declared.orders.Searched.TheVariants as sear
 -- what is found over all orders of the connection is found of the chosen one
 pub found_so : {X : Type 0} (config : Config) (wanted : Import) (packets : List Recorded) (segments : List Segment) (number : Option ℕ) (connection : Connection) (verdict : VerdictValue)
     (searched : Searched X) → IsAnswered number (length packets) (numbered (reverse segments)) connection → IsNoYes verdict → IsSought config verdict searched
-    → IsFoundOver config wanted.within (framings_of wanted.selection.session) connection (entries_of searched) (found_of searched)
+    → IsFoundOver config wanted.within (framings_of wanted.selection.session) connection verdict (entries_of searched) (found_of searched)
     → IsFound config wanted packets segments number verdict (entries_of searched) (found_of searched)
-found_so config wanted packets segments number connection verdict searches.Nothing answered other sought over = tt
+found_so config wanted packets segments number connection verdict searches.Nothing answered other sought over =
+    inr (inl (record { connection = connection; chosen = answered; over_all = over }))
 found_so config wanted packets segments number connection verdict (searches.NoOrder u instead) answered other sought over =
     (sought, record { connection = connection; chosen = answered; over_all = over })
 found_so config wanted packets segments number connection verdict (searches.Another another) answered other sought over =
@@ -53,6 +54,11 @@ pub yes_can : {X Y : Type 0} (session : Session) (config : Config) (records : Li
 yes_can session config records (verdicts.Yes ends) reason is has = subst (λ (w : Option (Reason _)). CanBePutOf session w) (sym has) tt
 yes_can session config records (verdicts.No count) reason is has = absurd (let never = is in cc)
 yes_can session config records verdicts.Unfinished reason is has = absurd (let never = is in cc)
+
+-- what holds if two things do, where something is answered
+pub both_ok : {X E : Type 0} (r : Result X E) (P Q H : X → Type 0) → ((x : X) → P x → Q x → H x) → IfOk r P → IfOk r Q → IfOk r H
+both_ok (Ok x) P Q H f p q = f x p q
+both_ok (Err e) P Q H f p q = tt
 
 -- what holds of the value that there is
 pub some_is : {X : Type 0} (o : Option X) (x : X) (P : X → Type 0) → o ≡ Some x → IfSome o P → P x

@@ -52,7 +52,15 @@ module _ (config : Config) (report : Report) (wanted : Import) (packets : List R
   by_told text status remarks rest (Judged Unfinished more) is prints tells begins =
       let judged = is.judged in (
         tells,
-        inl (record { connection = judged.connection; chosen = judged.chosen; entries = judged.entries; notes = judged.notes; made = judged.made; is = judged.is }),
+        inl (record {
+          connection = judged.connection;
+          chosen = judged.chosen;
+          entries = judged.entries;
+          notes = judged.notes;
+          made = judged.made;
+          is = judged.is;
+          searched = judged.is_found;
+        }),
       )
   by_told text status remarks rest (Refused refusal) is prints tells begins = absurd (not_refusal refusal rest (sym prints ∙ begins))
   by_told text status remarks rest (InAnotherOrder ends more) is prints tells begins = absurd (not_yes (flat_map end_text ends ++ more) rest (sym prints ∙ begins))

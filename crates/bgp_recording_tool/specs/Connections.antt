@@ -11,7 +11,7 @@ use Rattle.streams.specs.declared.connection.Opening.{Opening}
 use Rattle.bgp_prefix.specs.declared.session.RouteRefresh.TheVariants as refreshes
 use Rattle.bgp_parts.specs.Confederations.{SomeShowConfederations}
 use Rattle.bgp_open.specs.declared.config.Config.{Config}
-use Rattle.bgp_judge.specs.Verdict.{VerdictValue, Yes, No, HasVerdict}
+use Rattle.bgp_judge.specs.Verdict.{VerdictValue, Yes, No, Unfinished, HasVerdict}
 use Rattle.bgp_recording.specs.Captured.{IsNoRefresh, records_of}
 use Rattle.bgp_recording.specs.Pieces.{framings_of}
 use Rattle.bgp_recording.specs.declared.entry.Entry.{Entry}
@@ -23,6 +23,7 @@ use Rattle.bgp_orders.specs.WholeWays.{AreOfAWayOver}
 use Rattle.bgp_orders.specs.declared.connection.OverOrders.TheVariants as over
 use Rattle.bgp_orders.specs.declared.connection.Unexplained.{Unexplained}
 use Rattle.bgp_instead.specs.OtherOrders.{AreOtherOrders}
+use Rattle.bgp_import.specs.Gathers.{IsNotChosen}
 use Rattle.bgp_import.specs.Importing.{IsMadeOf}
 use Rattle.bgp_import.specs.ListText.{opening_text}
 use Rattle.bgp_import.specs.Making.{IsTurnedDown}
@@ -44,6 +45,7 @@ use Rattle.bgp_explain.specs.declared.report.Report.TheVariants.{VerdictAlone, W
 use Rattle.bgp_recording_tool.specs.declared.remark.Remark.{Remark}
 use Rattle.bgp_recording_tool.specs.Remarks.{AreRemarks, IsHelp}
 use Rattle.bgp_recording_tool.specs.Found.{Found, Nothing, ByNone, ByAnother, ByAll, IsNo, IsNoYes}
+use Rattle.bgp_recording_tool.specs.Found.{IsYes}
 use Rattle.bgp_recording_tool.specs.Told.{Told, Judged, NoOrder, InAnotherOrder, Refused}
 use Rattle.bgp_recording_tool.specs.Told.{UnfinishedOverAll, status_over, told_status, told_text}
 
@@ -75,15 +77,29 @@ pub record IsYesOver (config : Config) (within : ℕ) (framings : Framings)
   pub of : AreOfAWayOver framings within connection entries received sent
   pub is : HasVerdict config (records_of entries) (Yes ends)
 
+-- All orders of the connection's messages that the packets allow say nothing that is told in place
+-- of this verdict, which is no yes: it isn't known what they say, for too many nodes; or the verdict
+-- is unfinished, and no order is whole; or some order is whole. In this last case the records of
+-- such an order are judged, and nothing is found only if that is no yes.
+abbrev pub IsNothingOver : Config → ℕ → Framings → Connection → VerdictValue → Type 0
+IsNothingOver config within framings connection verdict =
+    IsOverOrders config within framings connection over.TooMany
+    ⊎ ((verdict ≡ Unfinished)
+    × (IsOverOrders config within framings connection over.Unfinished
+    ⊎ ((u : Unexplained) × IsOverOrders config within framings connection (over.No u))))
+    ⊎ IsOverOrders config within framings connection over.Yes
+
 -- This is found over all orders of the connection's messages that the packets allow. If another
 -- order is a yes, these are its entries.
-abbrev pub IsFoundOver : Config → ℕ → Framings → Connection → List Entry → Found → Type 0
-IsFoundOver config within framings connection others Nothing = Unit {0}
-IsFoundOver config within framings connection others (ByNone u instead) =
+abbrev pub IsFoundOver : Config → ℕ → Framings → Connection → VerdictValue → List Entry → Found
+    → Type 0
+IsFoundOver config within framings connection verdict others Nothing =
+    IsNothingOver config within framings connection verdict
+IsFoundOver config within framings connection verdict others (ByNone u instead) =
     IsOverOrders config within framings connection (over.No u)
-IsFoundOver config within framings connection others (ByAnother ends) =
+IsFoundOver config within framings connection verdict others (ByAnother ends) =
     IsYesOver config within framings connection others ends
-IsFoundOver config within framings connection others ByAll =
+IsFoundOver config within framings connection verdict others ByAll =
     IsOverOrders config within framings connection over.Unfinished
 
 -- What a reason says of other orders, if one is wanted, where no order explains the sent message
@@ -131,6 +147,20 @@ module _ (config : Config) (wanted : Import) (packets : List Recorded) (segments
       pub over_all : IsOverOrders config wanted.within (framings_of wanted.selection.session)
           connection over.Unfinished
 
+    -- The connection with this number, or the only one, isn't searched for anything else, since this
+    -- verdict on its made records is a yes. Or all of its orders that the packets allow within the
+    -- patience say nothing else. Or there is no such connection.
+    pub record IsNothingOf (number : Option ℕ) (verdict : VerdictValue) : Type 0 where
+      pub connection : Connection
+      pub chosen : IsAnswered number (length packets) (numbered (reverse segments)) connection
+      pub over_all : IsNothingOver config wanted.within (framings_of wanted.selection.session)
+          connection verdict
+
+    abbrev pub IsNothing : Option ℕ → VerdictValue → Type 0
+    IsNothing number verdict =
+        IsYes verdict ⊎ IsNothingOf number verdict
+        ⊎ ((refusal : Refusal) × IsNotChosen number (length packets) (reverse segments) refusal)
+
     -- This is what the reason of that connection's no says of other orders, where no order explains
     -- the sent message behind so many. These are its made entries.
     pub record AreInstead (report : Report) (number : Option ℕ) (before : ℕ) (made : List Entry)
@@ -149,7 +179,7 @@ module _ (config : Config) (wanted : Import) (packets : List Recorded) (segments
     -- This is found over all orders, where this is the verdict on the made one. If another order is
     -- a yes, these are its entries.
     abbrev pub IsFound : Option ℕ → VerdictValue → List Entry → Found → Type 0
-    IsFound number verdict others Nothing = Unit {0}
+    IsFound number verdict others Nothing = IsNothing number verdict
     IsFound number verdict others (ByNone u instead) = IsNo verdict × IsNoOrder number u
     IsFound number verdict others (ByAnother ends) =
         IsNoYes verdict × IsYesOfAnother number others ends

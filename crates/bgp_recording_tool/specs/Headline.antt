@@ -34,7 +34,7 @@ use Rattle.bgp_import.specs.declared.importing.Import.{Import}
 use Rattle.bgp_import.specs.Refusals.{refusal_number}
 use Rattle.bgp_import.specs.Selecting.{AreTaken}
 use Rattle.bgp_import.specs.declared.note.Notes.{Notes}
-use Rattle.bgp_recording_tool.specs.Connections.{IsTold, IsToldAs}
+use Rattle.bgp_recording_tool.specs.Connections.{IsNothing, IsTold, IsToldAs}
 use Rattle.bgp_recording_tool.specs.Found.{IsNoYes}
 use Rattle.bgp_recording_tool.specs.Told.{Told, Judged, NoOrder, InAnotherOrder, Refused}
 use Rattle.bgp_recording_tool.specs.Told.{UnfinishedOverAll, no_order_line}
@@ -104,7 +104,9 @@ NoAtPacketIsByNoOrder =
     → (u : Unexplained) × (more : List ℕ) × (text ≡ no_order_line u.packet ++ more)
     × (status ≡ 1) × IsByNoOrder config wanted packets segments number u
 
--- The made records of the connection with this number, or of the only one, are unfinished.
+-- The made records of the connection with this number, or of the only one, are unfinished. So it is
+-- over all orders that the packets allow, or these say nothing that is told in its place, or it isn't
+-- known what they say.
 pub record IsUnfinishedAsMade (config : Config) (wanted : Import) (packets : List Recorded)
     (segments : List Segment) (number : Option ℕ) : Type 0 where
   pub connection : Connection
@@ -113,6 +115,7 @@ pub record IsUnfinishedAsMade (config : Config) (wanted : Import) (packets : Lis
   pub notes : Notes
   pub made : IsMadeOf wanted connection entries notes
   pub is : HasVerdict config (records_of entries) Unfinished
+  pub searched : IsNothing config wanted packets segments number Unfinished
 
 -- What packets tell of that connection: some order that they allow explains all that was sent, and
 -- no run shows just the records of any, whichever state the session begins in.

@@ -1,9 +1,9 @@
 //! What all orders of one of a recording's connections say, beside the made one.
 
-ghost use Rattle.std.specs.Prelude.{List, IfSome, IsFalse, IsTrue, length, reverse};
+ghost use Rattle.std.specs.Prelude.{◌≡◌, List, IfOk, IfSome, IsFalse, IsTrue, length, reverse};
 ghost use Rattle.packets.specs.Packet.{Recorded};
 ghost use Rattle.streams.specs.Passed.{Segment};
-ghost use Rattle.bgp_judge.specs.Verdict.{verdict_value};
+ghost use Rattle.bgp_judge.specs.Verdict.{Unfinished, verdict_value};
 ghost use Rattle.bgp_import.specs.Gathers.{HoldsSession};
 ghost use Rattle.bgp_import.specs.Making.{HoldsTaken};
 ghost use Rattle.bgp_import.specs.Selecting.{AreTaken};
@@ -23,7 +23,7 @@ use bgp_open::Config;
 use bgp_orders::{OverOrders, Unexplained, record_whole_way, verdict_over_orders};
 use bgp_recording::{Entry, Framings, Recording};
 use bgp_why::OtherOrders;
-use std::alloc::Allocator;
+use std::alloc::{AllocError, Allocator};
 use streams::Connection;
 
 /// Another order than the made one, whose records are a yes.
@@ -48,13 +48,16 @@ pub(crate) enum Searched<'a, A: Allocator> {
     Unfinished,
 }
 
-/// Whether the verdict is a no.
+/// Whether the verdict is a no. Else it is a yes or unfinished.
 fn is_no<A: Allocator>(verdict: &Verdict<A>) -> bool
-    ensures { IsTrue result → IsNo (verdict_value verdict.now) }
+    ensures yes { IsTrue result → IsNo (verdict_value verdict.now) }
+    ensures no { IsFalse result → IsNoYes (verdict_value verdict.now)
+        → verdict_value verdict.now ≡ Unfinished }
 {
     match verdict {
         Verdict::No(_) => true,
-        Verdict::Yes(_) | Verdict::Unfinished => false,
+        Verdict::Yes(_) => false,
+        Verdict::Unfinished => false,
     }
 }
 
@@ -70,35 +73,34 @@ fn is_yes<A: Allocator>(verdict: &Verdict<A>) -> bool
 }
 
 /// Returns the records of a whole way of the connection's messages, if judging them answers yes.
+/// Returns `AllocError` if memory is refused.
 fn another_yes<'a, A: Allocator + Copy, T: Tracker<A>>(
     alloc: A,
     config: &Config,
     connection: &Connection<'a>,
     framings: Framings,
     within: u16,
-) -> Option<AnotherOrder<'a, A>>
+) -> Result<Option<AnotherOrder<'a, A>>, AllocError>
     requires received { IsCovered connection.now.received }
     requires sent { IsCovered connection.now.sent }
-    ensures explained { IfSome result (λ another.
+    ensures explained { IfOk result (λ found. IfSome found (λ another.
         AreExplained config.now (records_of another.recording.entries.items) another.explained
-        × IsYes (verdict_value another.explained.verdict)) }
-    ensures yes { IfSome result (λ another. IsClocked connection.now
+        × IsYes (verdict_value another.explained.verdict))) }
+    ensures yes { IfOk result (λ found. IfSome found (λ another. IsClocked connection.now
         → IsYesOver config.now within framings connection.now another.recording.entries.items
-        (ends_of (verdict_value another.explained.verdict))) }
+        (ends_of (verdict_value another.explained.verdict)))) }
 {
-    let Ok(Some(recording)) = record_whole_way(alloc, config, connection, framings, within) else {
-        return None;
+    let Some(recording) = record_whole_way(alloc, config, connection, framings, within)? else {
+        return Ok(None);
     };
-    let Ok(explained) = explain_records::<A, T>(alloc, config, &recording.records) else {
-        return None;
-    };
+    let explained = explain_records::<A, T>(alloc, config, &recording.records)?;
     if !is_yes(&explained.verdict) {
-        return None;
+        return Ok(None);
     }
-    Some(AnotherOrder {
+    Ok(Some(AnotherOrder {
         recording,
         explained,
-    })
+    }))
 }
 
 /// Returns what a reason says of other orders, if one is wanted, where no order explains the sent
@@ -134,7 +136,9 @@ fn instead_of<A: Allocator + Copy>(
 }
 
 /// Returns what is found over all orders of the connection's messages, if this is the verdict on the
-/// records of the made entries.
+/// records of the made entries, and no yes. It is nothing only if it isn't known, for too many nodes;
+/// if the verdict is unfinished and no other order is a yes; or if some order is whole, and the
+/// records of such a one aren't judged with a yes. Returns `AllocError` if memory is refused.
 fn search_connection<'a, A: Allocator + Copy, T: Tracker<A>>(
     alloc: A,
     config: &Config,
@@ -144,37 +148,49 @@ fn search_connection<'a, A: Allocator + Copy, T: Tracker<A>>(
     within: u16,
     made: &[Entry<'_>],
     verdict: &Verdict<A>,
-) -> Searched<'a, A>
+) -> Result<Searched<'a, A>, AllocError>
     requires received { IsCovered connection.now.received }
     requires sent { IsCovered connection.now.sent }
-    ensures sought { IsSought config.now (verdict_value verdict.now) result }
-    ensures found { IsClocked connection.now → IsFoundOver config.now within framings
-        connection.now (entries_of result) (found_of result) }
-    ensures instead { IsClocked connection.now → IsInsteadOver report config.now within framings
-        connection.now made.now (verdict_value verdict.now) (found_of result) }
+    requires no_yes { IsNoYes (verdict_value verdict.now) }
+    ensures sought { IfOk result (λ searched.
+        IsSought config.now (verdict_value verdict.now) searched) }
+    ensures found { IfOk result (λ searched. IsClocked connection.now
+        → IsFoundOver config.now within framings connection.now (verdict_value verdict.now)
+        (entries_of searched) (found_of searched)) }
+    ensures instead { IfOk result (λ searched. IsClocked connection.now
+        → IsInsteadOver report config.now within framings connection.now made.now
+        (verdict_value verdict.now) (found_of searched)) }
 {
-    match verdict_over_orders(alloc, config, connection, framings, within) {
-        Ok(OverOrders::No(unexplained)) if is_no(verdict) => {
+    match verdict_over_orders(alloc, config, connection, framings, within)? {
+        OverOrders::Yes => {
+            match another_yes::<A, T>(alloc, config, connection, framings, within)? {
+                Some(another) => Ok(Searched::Another(another)),
+                None => Ok(Searched::Nothing),
+            }
+        }
+        OverOrders::No(unexplained) => {
+            if !is_no(verdict) {
+                return Ok(Searched::Nothing);
+            }
             let before = unexplained.before;
             let instead = instead_of(
                 alloc, config, report, connection, framings, within, before, made, verdict,
             );
-            Searched::NoOrder(unexplained, instead)
+            Ok(Searched::NoOrder(unexplained, instead))
         }
-        Ok(OverOrders::Yes) => {
-            match another_yes::<A, T>(alloc, config, connection, framings, within) {
-                Some(another) => Searched::Another(another),
-                None => Searched::Nothing,
+        OverOrders::Unfinished => {
+            if !is_no(verdict) {
+                return Ok(Searched::Nothing);
             }
+            Ok(Searched::Unfinished)
         }
-        Ok(OverOrders::Unfinished) if is_no(verdict) => Searched::Unfinished,
-        // It is known of the made order already, or isn't known.
-        Ok(_) | Err(_) => Searched::Nothing,
+        OverOrders::TooMany => Ok(Searched::Nothing),
     }
 }
 
 /// Returns what is found over all orders of the connection of this number, or of the only one, if
-/// the verdict on the records of the made entries isn't a yes. Else nothing is searched.
+/// the verdict on the records of the made entries isn't a yes. If it is one nothing is searched.
+/// Returns `AllocError` if memory is refused.
 pub(crate) fn search_orders<'a, A: Allocator + Copy, T: Tracker<A>>(
     alloc: A,
     config: &Config,
@@ -184,25 +200,26 @@ pub(crate) fn search_orders<'a, A: Allocator + Copy, T: Tracker<A>>(
     number: Option<usize>,
     made: &[Entry<'_>],
     verdict: &Verdict<A>,
-) -> Searched<'a, A>
+) -> Result<Searched<'a, A>, AllocError>
     requires holds { HoldsTaken import.now.selection gathered.now }
-    ensures sought { IsSought config.now (verdict_value verdict.now) result }
-    ensures found { (packets : List Recorded) (segments : List Segment)
+    ensures sought { IfOk result (λ searched.
+        IsSought config.now (verdict_value verdict.now) searched) }
+    ensures found { IfOk result (λ searched. (packets : List Recorded) (segments : List Segment)
         → AreTaken import.now.selection 0 packets segments
         → HoldsSession (reverse segments) (length packets) gathered.now
         → IsFound config.now import.now packets segments number (verdict_value verdict.now)
-        (entries_of result) (found_of result) }
-    ensures instead { (packets : List Recorded) (segments : List Segment)
+        (entries_of searched) (found_of searched)) }
+    ensures instead { IfOk result (λ searched. (packets : List Recorded) (segments : List Segment)
         → AreTaken import.now.selection 0 packets segments
         → HoldsSession (reverse segments) (length packets) gathered.now
         → IsInstead config.now import.now packets segments report number made.now
-        (verdict_value verdict.now) (found_of result) }
+        (verdict_value verdict.now) (found_of searched)) }
 {
     if is_yes(verdict) {
-        return Searched::Nothing;
+        return Ok(Searched::Nothing);
     }
     let Ok(connection) = gathered.choose(number) else {
-        return Searched::Nothing;
+        return Ok(Searched::Nothing);
     };
     let framings = Framings::of_session(&import.selection.session);
     let within = import.within;

@@ -30,7 +30,7 @@ put_searched-requires-clause-can g c =
     are.reason
 
 pub put_searched-requires-clause-sought : goal.put_searched-requires-clause-sought
-put_searched-requires-clause-sought g c = c.search_orders-searched.ensures.sought
+put_searched-requires-clause-sought g c = c.in_ok-searched.ensures.sought
 
 pub returns : goal.returns
 returns g c = λ packets segments taken holds.
@@ -41,14 +41,14 @@ returns g c = λ packets segments taken holds.
     let records = c.requires.records in
     record {
       verdict = verdict;
-      found = found_of c.search_orders-searched.result;
-      others = entries_of c.search_orders-searched.result;
+      found = found_of c.in_ok-searched.searched;
+      others = entries_of c.in_ok-searched.searched;
       more = more;
       is = subst (λ (rs : List ShownRecord). HasVerdict config rs verdict) (ap (map shown_of) c.deref.ensures.value ∙ records) c.in_ok-explained.ensures.explained.verdict;
-      is_found = c.search_orders-searched.ensures.found packets segments taken holds;
-      is_more = subst (λ (es : List Entry). IsMoreOf c.args.report config es (entries_of c.search_orders-searched.result) verdict (found_of c.search_orders-searched.result) more) same is_more;
-      instead = subst (λ (es : List Entry). IsInstead config c.args.import.now packets segments c.args.report c.args.number es verdict (found_of c.search_orders-searched.result)) same
-          (c.search_orders-searched.ensures.instead packets segments taken holds);
+      is_found = c.in_ok-searched.ensures.found packets segments taken holds;
+      is_more = subst (λ (es : List Entry). IsMoreOf c.args.report config es (entries_of c.in_ok-searched.searched) verdict (found_of c.in_ok-searched.searched) more) same is_more;
+      instead = subst (λ (es : List Entry). IsInstead config c.args.import.now packets segments c.args.report c.args.number es verdict (found_of c.in_ok-searched.searched)) same
+          (c.in_ok-searched.ensures.instead packets segments taken holds);
       wrote = wrote;
       confederation = c.some_show_confederations-confederation.result;
       shows = subst (λ (rs : List ShownRecord). IsTrue c.some_show_confederations-confederation.result ↔ SomeShowConfederations rs) (ap (map shown_of) c.deref-2.ensures.value ∙ records)

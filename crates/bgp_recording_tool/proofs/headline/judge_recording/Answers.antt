@@ -1,4 +1,4 @@
-use Rattle.std.proofs.Common.{◌≡◌, ◌∙◌, ◌++◌, List, None, refl, sym, ap, subst, inr, rules}
+use Rattle.std.proofs.Common.{◌≡◌, ◌∙◌, ◌++◌, List, None, sym, ap, subst, inr, rules}
 use Rattle.bgp_tool.specs.Status.{code_of}
 use Rattle.bgp_text.proofs.Pieces.{Joins}
 use Rattle.bgp_text.proofs.Fresh.{IsFresh}

@@ -11,27 +11,27 @@ use Rattle.bgp_recording_tool.proofs.orders.another_yes.Goals as goal
 
 pub returns-clause-explained : goal.returns-clause-explained
 returns-clause-explained g c =
-    let recording = c.in-Ok-Some.recording in
-    let records = some_is c.in-Ok-Some.field-0 recording (λ made. map shown_of made.records.items ≡ records_of made.entries.items) c.in-Ok-Some.field-0-is
-    (rw c.in-Ok-Some.is at c.record_whole_way.ensures.records) in (
-      subst (λ (rs : List ShownRecord). AreExplained c.args.config.now rs c.in-Ok.explained) (ap (map shown_of) c.deref.ensures.value ∙ records) c.in-Ok.ensures.explained,
+    let recording = c.in-Some.recording in
+    let records = some_is c.in_ok-recording.field-0 recording (λ made. map shown_of made.records.items ≡ records_of made.entries.items) c.in-Some.is
+    c.in_ok-recording.ensures.records in (
+      subst (λ (rs : List ShownRecord). AreExplained c.args.config.now rs c.in_ok-explained.explained) (ap (map shown_of) c.deref.ensures.value ∙ records) c.in_ok-explained.ensures.explained,
       c.is_yes.ensures.yes c.if-not-is_yes.false,
     )
 
 pub returns-clause-yes : goal.returns-clause-yes
 returns-clause-yes g c = λ clocked.
     let config = c.args.config.now in
-    let recording = c.in-Ok-Some.recording in
-    let explained = c.in-Ok.explained in
+    let recording = c.in-Some.recording in
+    let explained = c.in_ok-explained.explained in
     let verdict = verdict_value explained.verdict in
-    let records = some_is c.in-Ok-Some.field-0 recording (λ made. map shown_of made.records.items ≡ records_of made.entries.items) c.in-Ok-Some.field-0-is
-    (rw c.in-Ok-Some.is at c.record_whole_way.ensures.records) in
+    let records = some_is c.in_ok-recording.field-0 recording (λ made. map shown_of made.records.items ≡ records_of made.entries.items) c.in-Some.is
+    c.in_ok-recording.ensures.records in
     record {
       received = recording.received;
       sent = recording.sent;
-      of = some_is c.in-Ok-Some.field-0 recording
-          (λ made. IsClocked c.args.connection.now → AreOfAWayOver c.args.framings c.args.within c.args.connection.now made.entries.items made.received made.sent) c.in-Ok-Some.field-0-is
-          (rw c.in-Ok-Some.is at c.record_whole_way.ensures.way) clocked;
+      of = some_is c.in_ok-recording.field-0 recording
+          (λ made. IsClocked c.args.connection.now → AreOfAWayOver c.args.framings c.args.within c.args.connection.now made.entries.items made.received made.sent) c.in-Some.is
+          c.in_ok-recording.ensures.way clocked;
       is = subst (λ (v : VerdictValue). HasVerdict config (records_of recording.entries.items) v) (c.is_yes.ensures.yes c.if-not-is_yes.false)
-          (subst (λ (rs : List ShownRecord). HasVerdict config rs verdict) (ap (map shown_of) c.deref.ensures.value ∙ records) c.in-Ok.ensures.explained.verdict);
+          (subst (λ (rs : List ShownRecord). HasVerdict config rs verdict) (ap (map shown_of) c.deref.ensures.value ∙ records) c.in_ok-explained.ensures.explained.verdict);
     }
