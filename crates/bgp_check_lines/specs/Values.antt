@@ -1,6 +1,6 @@
 -- The lines of `check` by their values, the text that each has where it isn't told in JSON, and its
 -- objects.
-use Rattle.std.specs.Prelude.{◌++◌, ◌+◌, ℕ, Bool, List, [], ◌∷◌, Option, None, Some}
+use Rattle.std.specs.Prelude.{◌++◌, ◌+◌, ℕ, Bool, true, false, List, [], ◌∷◌, Option, None, Some}
 use Rattle.std.specs.Prelude.{codes, if◌then◌else◌, nat_lt}
 use Rattle.std.specs.List.{flat_map}
 use Rattle.std.specs.Fmt.{decimal}
@@ -23,12 +23,14 @@ use Rattle.bgp_why.specs.declared.place.Place.{Place}
 use Rattle.bgp_json.specs.Object.{typed}
 use Rattle.bgp_json.specs.Others.{capture_json}
 use Rattle.bgp_json_values.specs.Objects.{number_of}
+use Rattle.bgp_json_verdicts.specs.At.{at_of}
 use Rattle.bgp_json_verdicts.specs.Lines as verdicts
 use Rattle.bgp_json_verdicts.specs.Objects as objects
 use Rattle.bgp_json_verdicts.specs.Objects.{text_json}
 use Rattle.bgp_json_check.specs.Members.{deed_members, direction_word, end_members}
 use Rattle.bgp_json_check.specs.Members.{known_members}
-use Rattle.bgp_json_check.specs.Objects.{ended_json, judged_json, yes_json}
+use Rattle.bgp_json_check.specs.Objects.{ended_json, in_made_members, judged_json}
+use Rattle.bgp_json_check.specs.Objects.{unjudged_members, yes_json}
 use Rattle.bgp_json_check.specs.declared.member.JudgedEnd.{JudgedEnd}
 use Rattle.bgp_ended.specs.EndedLine.{ended_stretch_line}
 use Rattle.bgp_ended.specs.Stretch.{EndedStretchValue}
@@ -192,9 +194,10 @@ abbrev pub answer_json : ℕ → List ℕ → List (List ℕ × Json) → Json
 answer_json judged answer members =
     judged_json (codes "verdict") judged ((codes "answer", string answer) ∷ members)
 
-abbrev pub unjudged_json : ℕ → JudgedEnd → List ℕ → Json
-unjudged_json judged end why =
-    answer_json judged (codes "not judged") (end_members end ++ (codes "why", string why) ∷ [])
+-- an end that isn't judged, whether its line leaves out its AS number, and why
+abbrev pub unjudged_json : ℕ → JudgedEnd → Bool → List ℕ → Json
+unjudged_json judged end is_left_out why =
+    judged_json (codes "verdict") judged (unjudged_members end is_left_out why)
 
 abbrev pub direction_member : Direction → List ℕ × Json
 direction_member direction = (codes "direction", string (direction_word direction))
@@ -238,9 +241,9 @@ value_objects judged (IsUnfinished place name) =
     answer_json judged (codes "unfinished")
     (known_members place ++ end_members (judged_end name)) ∷ []
 value_objects judged (IsUnjudged name why) =
-    unjudged_json judged (judged_end name) (why_text why) ∷ []
+    unjudged_json judged (judged_end name) false (why_text why) ∷ []
 value_objects judged (IsUnnamed end part why) =
-    unjudged_json judged (unnamed_end end part) why ∷ []
+    unjudged_json judged (unnamed_end end part) true why ∷ []
 value_objects judged (Explains lines) = objects.objects_from (objects.counts_behind judged) lines
 value_objects judged (PassesOver direction count) =
     if_some count (judged_json (codes "refresh_not_judged") judged
@@ -254,7 +257,7 @@ value_objects judged (IsNotRead direction at count is_refresh) =
     ∷ (codes "at", number_of at) ∷ (codes "octets", number_of count) ∷ []))
 value_objects judged (InMadeOrder first deed place) =
     judged_json (codes "in_made_order") judged
-    (known_members place ++ (codes "deed", text_json deed) ∷ []) ∷ []
+    (in_made_members (at_of first place) deed) ∷ []
 value_objects judged (OneOrder count) =
     judged_json (codes "one_order") judged ((codes "delayed", number_of count) ∷ []) ∷ []
 value_objects judged AnotherOrder = judged_json (codes "another_order") judged [] ∷ []
@@ -264,8 +267,8 @@ value_objects judged (IsLate within is_yes) =
     ((codes "within", number_of within) ∷ (codes "answer", string (later_answer is_yes)) ∷ [])
     ∷ []
 value_objects judged (IsEnded first number micro by ended) =
-    ended_json judged (place_of number micro ended) by ended.how ∷ []
-value_objects judged IsOpen = judged_json (codes "open") judged [] ∷ []
+    ended_json judged (at_of first (place_of number micro ended)) by ended.how ∷ []
+value_objects judged IsOpen = judged_json (codes "open_at_end") judged [] ∷ []
 value_objects judged (Repeats options) =
     judged_json (codes "repeat") judged
     ((codes "command", text_json (command_text options)) ∷ []) ∷ []

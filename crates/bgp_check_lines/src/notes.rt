@@ -21,6 +21,7 @@ use bgp_check_text::{JudgeOptions, put_command, put_judge_line};
 use bgp_clock::put_short;
 use bgp_ended::{EndedStretch, put_ended_stretch};
 use bgp_json_check::{CheckDetail, CheckTeller};
+use bgp_json_verdicts::At;
 use bgp_prefix::Seconds;
 use bgp_recording::{Rest, Unshown};
 use bgp_text::Lines;
@@ -220,7 +221,8 @@ pub fn put_ended<A: Allocator + Copy, W: Sink>(
                 second: ended.second,
                 micro,
             };
-            teller.put_ended(&mut lines.lines, lines.alloc, &place, by, ended.how);
+            let at = At::new(first, place);
+            teller.put_ended(&mut lines.lines, lines.alloc, &at, by, ended.how);
         }
     }
 }
@@ -270,7 +272,7 @@ pub fn put_in_made_order<A: Allocator + Copy, W: Sink>(
     match &mut lines.teller {
         LineTeller::Text => put_in_made_text(&mut lines.lines, first, deed, place),
         LineTeller::Json(teller) => {
-            let detail = CheckDetail::InMadeOrder(*place, deed);
+            let detail = CheckDetail::InMadeOrder(At::new(first, *place), deed);
             teller.put_detail(&mut lines.lines, lines.alloc, &detail);
         }
     }

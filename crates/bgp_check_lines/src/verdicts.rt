@@ -127,7 +127,7 @@ pub fn put_not_judged<A: Allocator + Copy, W: Sink>(
     match &mut lines.teller {
         LineTeller::Text => bgp_check_text::put_not_judged(&mut lines.lines, name, why),
         LineTeller::Json(teller) => {
-            let verdict = CheckVerdict::NotJudged(judged_end(name), why_text(why));
+            let verdict = CheckVerdict::NotJudged(judged_end(name), false, why_text(why));
             teller.put_verdict(&mut lines.lines, lines.alloc, &verdict);
         }
     }
@@ -176,7 +176,7 @@ pub fn put_unnamed<A: Allocator + Copy, W: Sink>(
                 as_number: None,
                 part,
             };
-            let verdict = CheckVerdict::NotJudged(unnamed, why);
+            let verdict = CheckVerdict::NotJudged(unnamed, true, why);
             teller.put_verdict(&mut lines.lines, lines.alloc, &verdict);
         }
     }

@@ -1,3 +1,3 @@
 mod InParts
-mod Shallow
+pub mod Shallow
 pub mod Told

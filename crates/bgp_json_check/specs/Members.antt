@@ -1,7 +1,7 @@
 -- The members of objects.
-use Rattle.std.specs.Prelude.{◌++◌, ℕ, List, [], ◌∷◌, Option, None, Some, codes, nat_lt}
+use Rattle.std.specs.Prelude.{◌++◌, ℕ, Bool, List, [], ◌∷◌, Option, None, Some, codes, nat_lt}
 use Rattle.std.specs.Prelude.{if◌then◌else◌}
-use Rattle.json.specs.Json.{Json, string}
+use Rattle.json.specs.Json.{Json, boolean, string}
 use Rattle.bgp_open.specs.declared.families.Families.{Families}
 use Rattle.bgp_names.specs.States.{state_name}
 use Rattle.bgp_values.specs.declared.opens.Direction.{Direction}
@@ -17,6 +17,10 @@ use Rattle.bgp_list.specs.JsonMembers.{endpoint_members, number_members, pair_me
 use Rattle.bgp_why.specs.declared.place.Place.{Place}
 use Rattle.bgp_json_check.specs.declared.member.Member.{Member}
 use Rattle.bgp_json_check.specs.declared.member.Member.TheVariants as members
+
+-- that something is so, if it is
+abbrev pub flag_members : List ℕ → Bool → List (List ℕ × Json)
+flag_members key is_so = if is_so then (key, boolean is_so) ∷ [] else []
 
 -- the number of a record, which is counted from 1: 0 stands for none
 abbrev pub record_members : ℕ → List (List ℕ × Json)
@@ -75,6 +79,7 @@ abbrev pub member_of : Member → List (List ℕ × Json)
 member_of (members.Number key number) = (key.now, number_of number) ∷ []
 member_of (members.Word key word) = (key.now, string word.now) ∷ []
 member_of (members.Text key text) = (key.now, text_json text.now) ∷ []
+member_of (members.Flag key is_so) = flag_members key.now is_so
 member_of (members.Place place) = known_members place
 member_of (members.End name) = end_members name
 member_of (members.Peer peer) = peer_members peer

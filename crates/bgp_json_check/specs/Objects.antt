@@ -12,13 +12,14 @@ use Rattle.bgp_json_values.specs.Objects.{number_of}
 use Rattle.bgp_json_verdicts.specs.At.{place_members}
 use Rattle.bgp_json_verdicts.specs.Objects.{state_member, text_json}
 use Rattle.bgp_json_verdicts.specs.RouteJson.{route_members}
+use Rattle.bgp_json_verdicts.specs.declared.at.At.{At}
 use Rattle.bgp_ended.specs.Values.{HowValue}
 use Rattle.bgp_list.specs.EndedJson.{how_members}
 use Rattle.bgp_list.specs.JsonMembers.{endpoint_members}
 use Rattle.bgp_why.specs.declared.endpoint.Endpoint.{Endpoint}
-use Rattle.bgp_why.specs.declared.place.Place.{Place}
 use Rattle.bgp_json_check.specs.Members.{before_members, deed_members, direction_word}
-use Rattle.bgp_json_check.specs.Members.{disabled_members, end_members, known_members}
+use Rattle.bgp_json_check.specs.Members.{disabled_members, end_members, flag_members}
+use Rattle.bgp_json_check.specs.Members.{known_members}
 use Rattle.bgp_json_check.specs.Members.{peer_members, reached_members}
 use Rattle.bgp_json_check.specs.declared.member.JudgedEnd.{JudgedEnd}
 use Rattle.bgp_json_check.specs.declared.objects.CheckDetail.{CheckDetail}
@@ -35,22 +36,30 @@ judged_json kind judged members = typed kind ((codes "judged", number_of judged)
 
 -- ---- what is answered of an end
 
-abbrev pub yes_members : JudgedEnd → PeerAs → ℕ → List ℕ → List (List ℕ × Json)
-yes_members end peer highest before =
+-- a yes, and whether routes are asked for
+abbrev pub yes_members : JudgedEnd → PeerAs → ℕ → List ℕ → Bool → List (List ℕ × Json)
+yes_members end peer highest before routes =
     (codes "answer", string (codes "yes"))
     ∷ (end_members end ++ (peer_members peer ++ (reached_members highest
-    ++ before_members before)))
+    ++ (before_members before ++ flag_members (codes "with_routes") routes))))
+
+-- an end that isn't judged, whether its line leaves out its AS number, and why
+abbrev pub unjudged_members : JudgedEnd → Bool → List ℕ → List (List ℕ × Json)
+unjudged_members end is_left_out why =
+    (codes "answer", string (codes "not judged"))
+    ∷ (end_members end ++ (flag_members (codes "as_left_out") is_left_out
+    ++ (codes "why", string why) ∷ []))
 
 abbrev pub verdict_members : CheckVerdict → List (List ℕ × Json)
-verdict_members (verdicts.Yes end peer highest before) = yes_members end peer highest before.now
+verdict_members (verdicts.Yes end peer highest before routes) =
+    yes_members end peer highest before.now routes
 verdict_members (verdicts.No place end deed) =
     (codes "answer", string (codes "no"))
     ∷ (known_members place ++ (end_members end ++ deed_members deed.now))
 verdict_members (verdicts.Unfinished place end) =
     (codes "answer", string (codes "unfinished")) ∷ (known_members place ++ end_members end)
-verdict_members (verdicts.NotJudged end why) =
-    (codes "answer", string (codes "not judged"))
-    ∷ (end_members end ++ (codes "why", string why.now) ∷ [])
+verdict_members (verdicts.NotJudged end is_left_out why) =
+    unjudged_members end is_left_out why.now
 
 abbrev pub verdict_json : ℕ → CheckVerdict → Json
 verdict_json judged verdict = judged_json (codes "verdict") judged (verdict_members verdict)
@@ -69,19 +78,25 @@ before_end_members number disabled routes =
     (codes "end", number_of number)
     ∷ (disabled_members disabled ++ (codes "routes", number_of routes) ∷ [])
 
+-- where the impossible record of the made order stands, and what it shows was done
+abbrev pub in_made_members : At → List ℕ → List (List ℕ × Json)
+in_made_members at deed =
+    known_members at.place ++ (flag_members (codes "dated") at.is_dated
+    ++ (codes "deed", text_json deed) ∷ [])
+
 abbrev pub detail_kind : CheckDetail → List ℕ
 detail_kind (details.End number state disabled routes) = codes "end"
 detail_kind (details.EndBefore number disabled routes) = codes "end_before"
 detail_kind (details.RefreshNotJudged direction count) = codes "refresh_not_judged"
 detail_kind (details.Incomplete direction count) = codes "incomplete"
 detail_kind (details.NotRead direction behind at count) = codes "not_read"
-detail_kind (details.InMadeOrder place deed) = codes "in_made_order"
+detail_kind (details.InMadeOrder at deed) = codes "in_made_order"
 detail_kind (details.OneOrder delayed) = codes "one_order"
 detail_kind details.AnotherOrder = codes "another_order"
 detail_kind details.AllOrders = codes "all_orders"
 detail_kind (details.Late within answer) = codes "late"
 detail_kind (details.Repeat command) = codes "repeat"
-detail_kind details.Open = codes "open"
+detail_kind details.Open = codes "open_at_end"
 
 abbrev pub detail_members : CheckDetail → List (List ℕ × Json)
 detail_members (details.End number state disabled routes) =
@@ -96,8 +111,8 @@ detail_members (details.Incomplete direction count) =
 detail_members (details.NotRead direction behind at count) =
     (codes "direction", string (direction_word direction)) ∷ (codes "behind", string behind.now)
     ∷ (codes "at", number_of at) ∷ (codes "octets", number_of count) ∷ []
-detail_members (details.InMadeOrder place deed) =
-    known_members place ++ (codes "deed", text_json deed.now) ∷ []
+detail_members (details.InMadeOrder at deed) =
+    in_made_members at deed.now
 detail_members (details.OneOrder delayed) = (codes "delayed", number_of delayed) ∷ []
 detail_members details.AnotherOrder = []
 detail_members details.AllOrders = []
@@ -110,10 +125,11 @@ abbrev pub detail_json : ℕ → CheckDetail → Json
 detail_json judged detail = judged_json (detail_kind detail) judged (detail_members detail)
 
 -- how the session ended: the record that shows it, by whom, and how
-abbrev pub ended_json : ℕ → Place → Endpoint → HowValue → Json
-ended_json judged place by how =
-    judged_json (codes "ended") judged (place_members place
-    ++ (endpoint_members (codes "by") (codes "by_port") by ++ how_members how))
+abbrev pub ended_json : ℕ → At → Endpoint → HowValue → Json
+ended_json judged at by how =
+    judged_json (codes "ended") judged (place_members at.place
+    ++ (flag_members (codes "dated") at.is_dated
+    ++ (endpoint_members (codes "by") (codes "by_port") by ++ how_members how)))
 
 -- ---- what is said of a whole file
 
@@ -169,6 +185,6 @@ befores_json true judged before = numbered_json (before_json true judged) 1 befo
 -- the verdict, its possible ends, and those before
 abbrev pub yes_json : Bool → ℕ → JudgedEnd → PeerAs → ℕ → List ℕ → List End → List End → List Json
 yes_json routes judged end peer highest counts ends before =
-    judged_json (codes "verdict") judged (yes_members end peer highest counts)
+    judged_json (codes "verdict") judged (yes_members end peer highest counts routes)
     ∷ (numbered_json (end_json routes judged) 1 ends
     ++ befores_json routes judged before)

@@ -5,13 +5,14 @@ ghost use Rattle.bgp_json_values.specs.Adding.{Adds};
 ghost use Rattle.bgp_json_values.specs.Objects.{members_tokens, number_of, values_tokens};
 ghost use Rattle.bgp_json_check.specs.Members.{all_members, before_members, deed_members};
 ghost use Rattle.bgp_json_check.specs.Members.{direction_word, disabled_members, end_members};
-ghost use Rattle.bgp_json_check.specs.Members.{known_members, member_of, part_members};
+ghost use Rattle.bgp_json_check.specs.Members.{flag_members, known_members, member_of};
+ghost use Rattle.bgp_json_check.specs.Members.{part_members};
 ghost use Rattle.bgp_json_check.specs.Members.{peer_members, reached_members, record_members};
 ghost use Rattle.bgp_json_check.specs.Members.{some_before_members};
 
 use bgp_check::PeerAs;
 use bgp_json::put_text;
-use bgp_json_values::{put_name, put_number, put_time};
+use bgp_json_values::{put_name, put_number, put_time, put_truth};
 use bgp_json_verdicts::{put_families, put_number_if, put_octets_text, put_state};
 use bgp_list::{put_as_number, put_end_members, put_pair};
 use bgp_machine::Fsm;
@@ -42,6 +43,8 @@ pub(crate) enum Member<'a> {
     Word(&'static str, &'static str),
     /// A text under this key. What isn't UTF-8 in it is U+FFFD.
     Text(&'static str, &'a [u8]),
+    /// `true` under this key, if it is so.
+    Flag(&'static str, bool),
     /// A record: its number, if that isn't 0, the packet that shows it, and its time.
     Place(Place),
     /// An end: its address, and its port, its AS number and which records these are, as far as they
@@ -81,6 +84,21 @@ fn put_known<A: Allocator>(writer: &mut Writer<A>, place: &Place) -> Result<(), 
     put_record(writer, place.number)?;
     put_number_if(writer, "packet", place.packet)?;
     put_time(writer, place.second, place.micro)
+}
+
+/// Puts that something is so, if it is.
+pub(crate) fn put_flag<A: Allocator>(
+    writer: &mut Writer<A>,
+    key: &str,
+    is_so: bool,
+) -> Result<(), AllocError>
+    ensures { Adds result writer.old writer.new (members_tokens (flag_members key.now is_so)) }
+{
+    if is_so {
+        put_truth(writer, key, is_so)
+    } else {
+        Ok(())
+    }
 }
 
 /// Puts which records these are, if that is said.
@@ -217,6 +235,7 @@ fn put_member<A: Allocator + Copy>(
         Member::Number(key, number) => put_number(writer, key, *number),
         Member::Word(key, word) => put_text(writer, key, word),
         Member::Text(key, text) => put_octets_text(writer, alloc, key, text),
+        Member::Flag(key, is_so) => put_flag(writer, key, *is_so),
         Member::Place(place) => put_known(writer, place),
         Member::End(name) => put_end(writer, alloc, name),
         Member::Peer(peer) => put_peer(writer, *peer),

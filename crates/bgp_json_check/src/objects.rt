@@ -2,6 +2,7 @@
 
 use crate::member::JudgedEnd;
 use bgp_check::PeerAs;
+use bgp_json_verdicts::At;
 use bgp_machine::Fsm;
 use bgp_open::Families;
 use bgp_values::Direction;
@@ -11,15 +12,16 @@ use bgp_why::Place;
 #[derive(Clone, Copy)]
 pub enum CheckVerdict<'a> {
     /// A yes: the AS number that its peer has, or hasn't; the number of the highest state that its
-    /// records tell (RFC 6396, 4.4.1); and how many routes the ends before had, if there were some.
-    Yes(JudgedEnd, PeerAs, u16, &'a [usize]),
+    /// records tell (RFC 6396, 4.4.1); how many routes the ends before had, if there were some; and
+    /// whether routes are asked for.
+    Yes(JudgedEnd, PeerAs, u16, &'a [usize], bool),
     /// A no: where it stands, and what was done there, if that can be said. The number of the record
     /// is 0, if it has none.
     No(Place, JudgedEnd, &'a [u8]),
     /// An unfinished: where the last record stands.
     Unfinished(Place, JudgedEnd),
-    /// It isn't judged, for this.
-    NotJudged(JudgedEnd, &'static str),
+    /// It isn't judged: whether its line leaves out its AS number, and why.
+    NotJudged(JudgedEnd, bool, &'static str),
 }
 
 /// What is said beside a verdict.
@@ -39,7 +41,7 @@ pub enum CheckDetail<'a> {
     NotRead(Direction, &'static str, u64, u64),
     /// Where the impossible record stands in the order that `bgp import` makes, and what it shows
     /// was done.
-    InMadeOrder(Place, &'a [u8]),
+    InMadeOrder(At, &'a [u8]),
     /// One order is judged, of those that the packets may allow: in it so many messages are delayed.
     OneOrder(u64),
     /// A yes is that of another order than `bgp import` makes.

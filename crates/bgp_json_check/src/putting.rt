@@ -14,17 +14,17 @@ ghost use Rattle.bgp_json_check.specs.Members.{all_members};
 ghost use Rattle.bgp_json_check.specs.Objects.{detail_json, ended_json, judged_json};
 ghost use Rattle.bgp_json_check.specs.Objects.{route_json, total_json, verdict_json};
 
-use crate::member::{Member, put_members};
+use crate::member::{Member, put_flag, put_members};
 use crate::objects::{CheckDetail, CheckTotal, CheckVerdict};
 use bgp_ended::How;
 use bgp_json::begin;
 use bgp_json_values::put_number;
-use bgp_json_verdicts::{put_place, put_route, put_written};
+use bgp_json_verdicts::{At, put_place, put_route, put_written};
 use bgp_list::{Line, put_end_members, put_how_members, write_session};
 use bgp_path::Path;
 use bgp_text::Lines;
 use bgp_update::Destination;
-use bgp_why::{Endpoint, Place};
+use bgp_why::Endpoint;
 use json::Writer;
 use mrt::Sink;
 use mrt_sessions::{Addresses, NamedRecord};
@@ -113,13 +113,14 @@ pub(crate) fn put_verdict_object<A: Allocator + Copy, W: Sink>(
         (json_line (verdict_json judged verdict.now)) }
 {
     match verdict {
-        CheckVerdict::Yes(end, peer, highest, before) => {
+        CheckVerdict::Yes(end, peer, highest, before, routes) => {
             let members = [
                 Member::Word("answer", "yes"),
                 Member::End(*end),
                 Member::Peer(*peer),
                 Member::Reached(*highest),
                 Member::Before(before),
+                Member::Flag("with_routes", *routes),
             ];
             put_judged(lines, alloc, "verdict", judged, &members)
         }
@@ -140,10 +141,11 @@ pub(crate) fn put_verdict_object<A: Allocator + Copy, W: Sink>(
             ];
             put_judged(lines, alloc, "verdict", judged, &members)
         }
-        CheckVerdict::NotJudged(end, why) => {
+        CheckVerdict::NotJudged(end, is_left_out, why) => {
             let members = [
                 Member::Word("answer", "not judged"),
                 Member::End(*end),
+                Member::Flag("as_left_out", *is_left_out),
                 Member::Word("why", why),
             ];
             put_judged(lines, alloc, "verdict", judged, &members)
@@ -201,8 +203,12 @@ pub(crate) fn put_detail_object<A: Allocator + Copy, W: Sink>(
             ];
             put_judged(lines, alloc, "not_read", judged, &members)
         }
-        CheckDetail::InMadeOrder(place, deed) => {
-            let members = [Member::Place(*place), Member::Text("deed", deed)];
+        CheckDetail::InMadeOrder(at, deed) => {
+            let members = [
+                Member::Place(at.place),
+                Member::Flag("dated", at.is_dated),
+                Member::Text("deed", deed),
+            ];
             put_judged(lines, alloc, "in_made_order", judged, &members)
         }
         CheckDetail::OneOrder(delayed) => {
@@ -222,7 +228,7 @@ pub(crate) fn put_detail_object<A: Allocator + Copy, W: Sink>(
             let members = [Member::Text("command", command)];
             put_judged(lines, alloc, "repeat", judged, &members)
         }
-        CheckDetail::Open => put_judged(lines, alloc, "open", judged, &[]),
+        CheckDetail::Open => put_judged(lines, alloc, "open_at_end", judged, &[]),
     }
 }
 
@@ -301,16 +307,17 @@ fn write_ended<A: Allocator + Copy>(
     writer: &mut Writer<A>,
     alloc: A,
     judged: u64,
-    place: &Place,
+    at: &At,
     by: &Endpoint,
     how: How<'_>,
 ) -> Result<(), AllocError>
     ensures { Adds result writer.old writer.new
-        (json_tokens (ended_json judged place.now by.now (how_value how.entry))) }
+        (json_tokens (ended_json judged at.now by.now (how_value how.entry))) }
 {
     begin(writer, "ended")?;
     put_number(writer, "judged", judged)?;
-    put_place(writer, place)?;
+    put_place(writer, &at.place)?;
+    put_flag(writer, "dated", at.is_dated)?;
     put_end_members(writer, alloc, "by", "by_port", by)?;
     put_how_members(writer, alloc, how)?;
     writer.end_object()
@@ -321,15 +328,15 @@ pub(crate) fn put_ended_object<A: Allocator + Copy, W: Sink>(
     lines: &mut Lines<'_, W>,
     alloc: A,
     judged: u64,
-    place: &Place,
+    at: &At,
     by: &Endpoint,
     how: How<'_>,
 ) -> Result<(), AllocError>
     ensures { PutsLine result lines.old lines.new
-        (json_line (ended_json judged place.now by.now (how_value how.entry))) }
+        (json_line (ended_json judged at.now by.now (how_value how.entry))) }
 {
     let mut writer = start(alloc);
-    let written = write_ended(&mut writer, alloc, judged, place, by, how);
+    let written = write_ended(&mut writer, alloc, judged, at, by, how);
     put_written(lines, writer, written)
 }
 

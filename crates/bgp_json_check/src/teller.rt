@@ -26,6 +26,7 @@ use crate::putting::{
 use bgp_check::PeerAs;
 use bgp_ended::How;
 use bgp_import::Refusal;
+use bgp_json_verdicts::At;
 use bgp_judge::End;
 use bgp_list::{Line, put_fault_json, put_refused_json};
 use bgp_path::Path;
@@ -33,7 +34,7 @@ use bgp_rib::RibIn;
 use bgp_text::Lines;
 use bgp_tool::Status;
 use bgp_update::Destination;
-use bgp_why::{Endpoint, Place};
+use bgp_why::Endpoint;
 use mrt::{CaptureFault, Sink};
 use mrt_sessions::{Addresses, NamedRecord};
 use std::alloc::{AllocError, Allocator};
@@ -131,17 +132,17 @@ impl CheckTeller {
         &mut self,
         lines: &mut Lines<'_, W>,
         alloc: A,
-        place: &Place,
+        at: &At,
         by: &Endpoint,
         how: How<'_>,
     )
         ensures { Tells self.old self.new lines.old lines.new
-            (ended_json self.old.judged place.now by.now (how_value how.entry) ∷ []) }
+            (ended_json self.old.judged at.now by.now (how_value how.entry) ∷ []) }
     {
         if self.has_failed {
             return;
         }
-        match put_ended_object(lines, alloc, self.judged, place, by, how) {
+        match put_ended_object(lines, alloc, self.judged, at, by, how) {
             Ok(()) => {}
             Err(AllocError) => self.fail(),
         }
@@ -402,7 +403,7 @@ impl CheckTeller {
             (yes_json routes (self.old.judged + 1) end peer highest counts.now
             (map end_value ends.now) (map end_value before.now)) }
     {
-        let verdict = CheckVerdict::Yes(end, peer, highest, counts);
+        let verdict = CheckVerdict::Yes(end, peer, highest, counts, routes);
         self.put_verdict(lines, alloc, &verdict);
         self.put_ends(lines, alloc, routes, ends);
         self.put_befores(lines, alloc, routes, before);

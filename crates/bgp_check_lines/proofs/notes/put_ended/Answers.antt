@@ -10,4 +10,4 @@ returns-in-Text g c = in_text c.args.lines.now _ _ c.in-Text.is c.put_ended_stre
 pub returns-in-Json : goal.returns-in-Json
 unfolding value_text
 returns-in-Json g c =
-    one_line c.args.lines.now _ _ _ (IsEnded c.args.first c.args.number c.args.micro c.args.by.now (ended_stretch_value c.args.ended.now)) _ c.in-Json.is c.put_ended.ensures refl
+    one_line c.args.lines.now _ _ _ (IsEnded c.args.first c.args.number c.args.micro c.args.by.now (ended_stretch_value c.args.ended.now)) _ c.in-Json.is (rw c.new-at.ensures at c.put_ended.ensures) refl

@@ -8,4 +8,4 @@ returns-in-Text g c = in_text c.args.lines.now _ _ c.in-Text.is c.put_in_made_te
 
 pub returns-in-Json : goal.returns-in-Json
 unfolding value_text
-returns-in-Json g c = one_line c.args.lines.now _ _ _ (InMadeOrder c.args.first c.args.deed.now c.args.place.now) _ c.in-Json.is (c.put_detail.ensures) refl
+returns-in-Json g c = one_line c.args.lines.now _ _ _ (InMadeOrder c.args.first c.args.deed.now c.args.place.now) _ c.in-Json.is (rw c.new.ensures at c.put_detail.ensures) refl

@@ -10,5 +10,5 @@ put_written-requires g c = starts_with_nothing c.start-writer.ensures.before c.w
 pub returns : goal.returns
 returns g c =
     let how = how_value c.args.how in
-    c.put_written.ensures (ended_json c.args.judged c.args.place.now c.args.by.now how) (is_written c.start-writer.ensures.tokens c.write_ended-written.ensures)
-    (ended_shallow c.args.judged c.args.place.now c.args.by.now how)
+    c.put_written.ensures (ended_json c.args.judged c.args.at.now c.args.by.now how) (is_written c.start-writer.ensures.tokens c.write_ended-written.ensures)
+    (ended_shallow c.args.judged c.args.at.now c.args.by.now how)
