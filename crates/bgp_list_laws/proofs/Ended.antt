@@ -114,18 +114,18 @@ error_made e =
 pub lacking : {keys : List (List ℕ)} {values : List (Option Json)} {ms : List (List ℕ × Json)} (key : List ℕ) → IsMade keys values ms → IsMade (key ∷ keys) (None ∷ values) ms
 lacking key rest = record { is = rest.is; long = ap suc rest.long }
 
-abbrev how_keys : List (List ℕ)
+abbrev pub how_keys : List (List ℕ)
 how_keys = codes "how" ∷ codes "old" ∷ codes "new" ∷ error_keys
 
 abbrev no_error : List (Option Json)
 no_error = None ∷ None ∷ None ∷ None ∷ None ∷ None ∷ None ∷ []
 
-abbrev how_values : HowValue → List (Option Json)
+abbrev pub how_values : HowValue → List (Option Json)
 how_values (Notified error) = Some (string (codes "NOTIFICATION")) ∷ None ∷ None ∷ error_values error
 how_values (Closed closing) = Some (string (closing_word closing)) ∷ None ∷ None ∷ no_error
 how_values (Fallen state) = Some (string (codes "change")) ∷ Some (string (state_name state)) ∷ Some (string (state_name 1)) ∷ no_error
 
-how_made : (how : HowValue) → IsMade how_keys (how_values how) (how_members how)
+pub how_made : (how : HowValue) → IsMade how_keys (how_values how) (how_members how)
 how_made (Notified error) = having (codes "how") (string (codes "NOTIFICATION")) (lacking (codes "old") (lacking (codes "new") (error_made error)))
 how_made (Closed closing) = record { is = refl; long = refl }
 how_made (Fallen state) = record { is = refl; long = refl }
@@ -148,7 +148,7 @@ ended_made by ended =
 abbrev who_in : List (Option Json) → List ℕ
 who_in os = codes ", by " ++ endpoint_in (at os 3) (at os 4)
 
-abbrev who_and_how_in : List (Option Json) → List ℕ
+abbrev pub who_and_how_in : List (Option Json) → List ℕ
 who_and_how_in os =
     if bytes_eq (said (at os 5)) (codes "NOTIFICATION")
     then who_in os ++ (codes ": " ++ ((codes "NOTIFICATION " ++ error_text (error_in (at os 8) (at os 9) (at os 11))) ++ codes "\n"))
@@ -163,7 +163,7 @@ ended_by first os =
 abbrev pub ended_in : ℕ → Json → List ℕ
 ended_in first value = ended_by first (found ended_keys (paired (members_of value)))
 
-how_back : (by : Endpoint) (ended : EndedValue) (how : HowValue) → IsHow how
+pub how_back : (by : Endpoint) (ended : EndedValue) (how : HowValue) → IsHow how
     → who_and_how_in (Some (number_of ended.moment.packet) ∷ Some (number_of ended.moment.second) ∷ micro_json ended.moment.micro
     ∷ Some (address_json by.address) ∷ number_json by.port ∷ how_values how)
     ≡ who_and_how_text how by

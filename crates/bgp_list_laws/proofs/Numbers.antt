@@ -41,7 +41,7 @@ use Rattle.bgp_list_laws.specs.Ranges.{IsEnd, IsEndIfAny, IsHow, IsLine, IsOpeni
 
 -- ---- members
 
-number_fits : (key : List ℕ) (number : Option ℕ) → FitsIfAny number → HaveDecimals (number_members key number)
+pub number_fits : (key : List ℕ) (number : Option ℕ) → FitsIfAny number → HaveDecimals (number_members key number)
 number_fits key None fits = tt
 number_fits key (Some number) fits = (of_number number fits, tt)
 
@@ -52,14 +52,14 @@ micro_fits (Some micro) = elim (cases_Bool (nat_lt micro 1000000)) [
   | inr isnt ↦ rw isnt tt
 ]
 
-time_fits : (second : ℕ) (micro : Option ℕ) → Fits second → HaveDecimals (time_members second micro)
+pub time_fits : (second : ℕ) (micro : Option ℕ) → Fits second → HaveDecimals (time_members second micro)
 time_fits second micro fits = (of_number second fits, micro_fits micro)
 
 pub pair_fits : (first second : ℕ) → Fits first → Fits second → HasDecimals (array_of number_of (first ∷ second ∷ []))
 pair_fits first second is also =
     of_array number_of Fits of_number (first ∷ second ∷ []) (All-cons Fits first (second ∷ []) is (All-cons Fits second [] also (All-nil Fits)))
 
-endpoint_fits : (key port_key : List ℕ) (end : Endpoint) → FitsIfAny end.port → HaveDecimals (endpoint_members key port_key end)
+pub endpoint_fits : (key port_key : List ℕ) (end : Endpoint) → FitsIfAny end.port → HaveDecimals (endpoint_members key port_key end)
 endpoint_fits key port_key end fits = (tt, number_fits port_key end.port fits)
 
 port_fits : (side : Side) (session : Session) (opening : Opening) → IsOpening opening → FitsIfAny (endpoint_of side session opening).port
@@ -68,7 +68,7 @@ port_fits Peer session opening is = is.peer_port
 
 -- ---- an end
 
-how_fits : (how : HowValue) → IsHow how → HaveDecimals (how_members how)
+pub how_fits : (how : HowValue) → IsHow how → HaveDecimals (how_members how)
 how_fits (Notified error) is = (tt, of_error error (is.code, is.subcode, is.detail))
 how_fits (Closed closing) is = (tt, tt)
 how_fits (Fallen state) is = (tt, (tt, (tt, tt)))

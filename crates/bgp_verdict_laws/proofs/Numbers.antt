@@ -54,7 +54,7 @@ micro_fits (Some micro) = elim (cases_Bool (nat_lt micro 1000000)) [
 time_fits : (second : ℕ) (micro : Option ℕ) → Fits second → HaveDecimals (time_members second micro)
 time_fits second micro fits = (of_number second fits, micro_fits micro)
 
-place_fits : (place : Place) → FitsPlace place → HaveDecimals (place_members place)
+pub place_fits : (place : Place) → FitsPlace place → HaveDecimals (place_members place)
 place_fits place fits = (
   of_number place.number fits.0,
   of_both (number_members (codes "packet") place.packet) (time_members place.second place.micro) (if_any (codes "packet") place.packet fits.1) (time_fits place.second place.micro fits.2),
@@ -200,7 +200,7 @@ refusal_fits refusal fits =
     ∷ (codes "packet", number_of (refusal_packet refusal)) ∷ octet_members (octet_of refusal) in
     typed_fits (codes "refused") ms (tt, (of_number (refusal_number refusal) fits.0, (tt, (of_number (refusal_packet refusal) fits.1, octet_fits (octet_of refusal) fits.2))))
 
-line_fits : (counts : Counts) (line : LineValue) → Fits counts.judged → Fits counts.end → FitsLine line → HasDecimals (line_json counts line)
+pub line_fits : (counts : Counts) (line : LineValue) → Fits counts.judged → Fits counts.end → FitsLine line → HasDecimals (line_json counts line)
 line_fits counts (Opens session opening) judged end fits = typed_fits (codes "connection") (opening_members session opening) (opening_fits session opening fits)
 line_fits counts (Answers answer) judged end fits = verdict_fits (codes "verdict") counts (answer_members answer) judged (answer_fits answer fits)
 line_fits counts (Ends state disabled) judged end fits =

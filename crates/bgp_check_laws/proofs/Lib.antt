@@ -1,0 +1,9 @@
+pub mod Members
+pub mod Reading
+pub mod Answers
+pub mod Notes
+pub mod States
+pub mod Yes
+pub mod Lines
+pub mod Numbers
+pub mod Printed
