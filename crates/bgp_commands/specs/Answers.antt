@@ -14,6 +14,8 @@ use Rattle.bgp_prefix.specs.Shown.{ShownRecord}
 use Rattle.bgp_prefix.specs.declared.session.Session.{Session}
 use Rattle.bgp_open.specs.declared.config.Config.{Config}
 use Rattle.bgp_import.specs.declared.options.RecordingOptions.{RecordingOptions}
+use Rattle.bgp_words.specs.declared.check.CheckForm.{CheckForm}
+use Rattle.bgp_words.specs.declared.check.CheckForm.TheVariants as forms
 use Rattle.bgp_words.specs.declared.check.Checking.{Checking}
 use Rattle.bgp_words.specs.declared.words.Command.{Command}
 use Rattle.bgp_words.specs.declared.words.Command.TheVariants as words
@@ -56,6 +58,8 @@ use Rattle.bgp_check_capture_tool.specs.Checking.{ChecksCapture}
 use Rattle.bgp_check_capture_tool.specs.Printed as captures
 use Rattle.bgp_check_capture_tool.specs.declared.checking.CheckedCapture.{CheckedCapture}
 use Rattle.bgp_check_capture_tool.specs.declared.options.CaptureOptions.{CaptureOptions}
+use Rattle.bgp_report.specs.Report.{Reports, TakesText, never_fails, recording_options}
+use Rattle.bgp_report.specs.Report.{capture_options as report_options}
 use Rattle.bgp_recording_tool.specs.Files.{DecodesFile, IsPeeked, JudgesFile, is_recording}
 use Rattle.bgp_recording_tool.specs.Files.{peeked_remaining}
 use Rattle.bgp_recording_tool.specs.Options.{import_of}
@@ -126,13 +130,19 @@ form_with json = if json then verdicts.Json else verdicts.Text
 abbrev pub settings_with : Bool → Settings
 settings_with settings = if settings then Always else Never
 
+-- a report is made of text
+abbrev pub form_in : CheckForm → VerdictForm
+form_in forms.Text = verdicts.Text
+form_in forms.Json = verdicts.Json
+form_in forms.Html = verdicts.Text
+
 abbrev pub check_options : Checking → CheckOptions
 check_options checking = record {
   port = checking.port;
   within = checking.within;
   printing = record { routes = checking.routes; quiet = checking.quiet };
   settings = settings_with checking.settings;
-  form = form_with checking.json;
+  form = form_in checking.form;
 }
 
 -- of a capture: its messages have no port, and were handled when their records were written
@@ -261,6 +271,11 @@ module _ {R W : Type 0} (remaining : R → Option (List ℕ)) (contents : W → 
       listed.fault)
       (IsFileNote commands.List file listed.sessions listed.fault)
 
+  -- a text is printed so, and its report under the name of the file was written
+  abbrev pub Reported : ℕ → (List ℕ → ℕ → Type 0) → Type 0
+  Reported status Prints =
+      Reports (TakesWritten contents) write_failures file.now Prints old new status
+
   -- both ends of each connection are checked
   abbrev pub ChecksPackets : CheckOptions → CheckedRecording → Ends → Type 0
   ChecksPackets options checked ends = IsCalled file reader old new ends
@@ -286,6 +301,36 @@ module _ {R W : Type 0} (remaining : R → Option (List ℕ)) (contents : W → 
       × ChecksCapture (GivesFront remaining) front_ended (TakesWritten contents) front_failures
       write_failures options begun read old new checked.status checked.refusals.items
       checked.sessions checked.fault checked.nothing)
+      (IsFileNote commands.Check file checked.sessions checked.fault)
+
+  -- a report is made of what is printed of a recording, as text with routes and settings: of the
+  -- same answers, in the same words
+  abbrev pub ReportsPackets : CheckOptions → CheckedRecording → Ends → Type 0
+  ReportsPackets options checked ends = IsCalled file reader old new ends
+      (λ begun read. Reported checked.status (λ (text : List ℕ) (code : ℕ).
+      recordings.PrintsTrue recordings.NoesAreTrue (GivesRead remaining) has_ended TakesText
+      never_fails (recording_options options) begun read [] text code checked.cut_short)
+      × Reported checked.status (λ (text : List ℕ) (code : ℕ).
+      recordings.PrintsTrue recordings.YesesAreTrue (GivesRead remaining) has_ended TakesText
+      never_fails (recording_options options) begun read [] text code checked.cut_short)
+      × Reported checked.status (λ (text : List ℕ) (code : ℕ).
+      recordings.PrintsTrue recordings.UnfinishedAreTrue (GivesRead remaining) has_ended TakesText
+      never_fails (recording_options options) begun read [] text code checked.cut_short)
+      × Reported checked.status (λ (text : List ℕ) (code : ℕ).
+      ChecksRecording (GivesRead remaining) has_ended TakesText read_failures never_fails
+      (recording_options options) begun read [] text code checked.cut_short
+      checked.refusals.items checked.refusal checked.nothing))
+
+  -- and of a capture
+  abbrev pub ReportsRecords : CaptureOptions → CheckedCapture → Ends → Type 0
+  ReportsRecords options checked ends = IsCalledWithFront file reader old new ends
+      (λ begun read. Reported checked.status (λ (text : List ℕ) (code : ℕ).
+      captures.PrintsTrueNoes (GivesFront remaining) front_ended TakesText never_fails
+      (report_options options) begun read [] text code checked.fault)
+      × Reported checked.status (λ (text : List ℕ) (code : ℕ).
+      ChecksCapture (GivesFront remaining) front_ended TakesText front_failures never_fails
+      (report_options options) begun read [] text code checked.refusals.items checked.sessions
+      checked.fault checked.nothing))
       (IsFileNote commands.Check file checked.sessions checked.fault)
 
 -- ---- by the first four octets
@@ -321,6 +366,23 @@ module _ {R W X : Type 0} (remaining : R → Option (List ℕ)) (contents : W �
       × ChecksRecords (peeked_remaining remaining) contents file peeked old new
       (capture_options options) checked ends)))
 
+  -- a report is written of it
+  abbrev pub ReportsFile : CheckOptions → Type 0
+  ReportsFile options = ByFront remaining reader
+      (λ peeked. (checked : CheckedRecording) × ((ends : Ends)
+      × ((answer ≡ answers.CheckedRecording checked ends)
+      × ReportsPackets (peeked_remaining remaining) contents file peeked old new options checked
+      ends)))
+      (λ peeked. (checked : CheckedCapture) × ((ends : Ends)
+      × ((answer ≡ answers.CheckedCapture checked ends)
+      × ReportsRecords (peeked_remaining remaining) contents file peeked old new
+      (capture_options options) checked ends)))
+
+  abbrev pub ChecksIn : CheckForm → CheckOptions → Type 0
+  ChecksIn forms.Text options = ChecksFile options
+  ChecksIn forms.Json options = ChecksFile options
+  ChecksIn forms.Html options = ReportsFile options
+
 -- ---- each command
 
 module _ {R W X : Type 0} (may_lack : Config → List ShownRecord → ShownRecord → Type 0)
@@ -344,8 +406,8 @@ module _ {R W X : Type 0} (may_lack : Config → List ShownRecord → ShownRecor
       × ImportsFile remaining contents file reader old new session recording imported ends)))
   Answers (words.List port json file) = ListsFile remaining contents file reader old new answer
       port (list_form json)
-  Answers (words.Check checking file) = ChecksFile remaining contents file
-      reader old new answer (check_options checking)
+  Answers (words.Check checking file) = ChecksIn remaining contents file
+      reader old new answer checking.form (check_options checking)
   Answers (words.Speak config speaking file) = ⊥
   Answers (words.Pair file) = ⊥
 

@@ -12,9 +12,10 @@ ghost use Rattle.bgp_commands.specs.Sentences.{sentences_of, status_of};
 ghost use Rattle.bgp_commands.specs.declared.answer.Answer.{Answer as Given};
 
 use crate::answer::Answer;
-use crate::checking::{check, check_options};
+use crate::checking::check_options;
 use crate::importing::import;
 use crate::listing::{list, list_form};
+use crate::reporting::check_in;
 use crate::voice::Voice;
 use bgp_explain::Report;
 use bgp_import::RecordingOptions;
@@ -166,7 +167,7 @@ fn answer_from<'a, A: Allocator + Copy, T: Tracker<A>, R: Read + Ready + Drop, W
         }
         Command::Check { checking, file } => {
             let options = check_options(&checking);
-            check::<A, T, R, W>(alloc, &options, file, reader, sink)
+            check_in::<A, T, R, W>(alloc, checking.form, &options, file, reader, sink)
         }
         Command::Speak { .. } | Command::Pair { .. } => unreachable!(),
     }
@@ -250,7 +251,7 @@ fn report_with(explain: bool) -> Report
 }
 
 /// Returns the form in which verdicts are told.
-pub(crate) fn form_with(json: bool) -> VerdictForm
+fn form_with(json: bool) -> VerdictForm
     ensures { result ≡ form_with json }
 {
     if json {

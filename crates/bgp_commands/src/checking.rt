@@ -6,7 +6,6 @@ ghost use Rattle.bgp_commands.specs.Answers.{ChecksFile, ChecksPackets, ChecksRe
 ghost use Rattle.bgp_commands.specs.Answers as specs;
 
 use crate::answer::Answer;
-use crate::answering::form_with;
 use crate::ends::Ends;
 use bgp_check_capture_tool::{CaptureOptions, CheckedCapture, check_capture};
 use bgp_check_text::Printing;
@@ -14,7 +13,8 @@ use bgp_check_tool::{CheckOptions, CheckedRecording, Settings, check_recording};
 use bgp_judge::Tracker;
 use bgp_recording_tool::Peeked;
 use bgp_tool::WithFront;
-use bgp_words::Checking;
+use bgp_verdict_lines::VerdictForm;
+use bgp_words::{CheckForm, Checking};
 use mrt::{FromRead, FromWrite, Sink};
 use std::alloc::Allocator;
 use std::io::{Read, Write};
@@ -30,6 +30,16 @@ fn settings_with(settings: bool) -> Settings
     }
 }
 
+/// Returns the form in which the lines are put: a report is made of text.
+fn form_in(form: CheckForm) -> VerdictForm
+    ensures { result ≡ specs.form_in form }
+{
+    match form {
+        CheckForm::Text | CheckForm::Html => VerdictForm::Text,
+        CheckForm::Json => VerdictForm::Json,
+    }
+}
+
 /// Returns how a pcap file is checked.
 pub(crate) fn check_options(checking: &Checking) -> CheckOptions
     ensures { result ≡ specs.check_options checking.now }
@@ -42,12 +52,12 @@ pub(crate) fn check_options(checking: &Checking) -> CheckOptions
             quiet: checking.quiet,
         },
         settings: settings_with(checking.settings),
-        form: form_with(checking.json),
+        form: form_in(checking.form),
     }
 }
 
 /// Returns how an MRT file is checked.
-fn capture_options(options: &CheckOptions) -> CaptureOptions
+pub(crate) fn capture_options(options: &CheckOptions) -> CaptureOptions
     ensures { result ≡ specs.capture_options options.now }
 {
     let CheckOptions {

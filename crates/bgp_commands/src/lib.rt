@@ -24,6 +24,7 @@ mod ends;
 mod importing;
 mod listing;
 mod made_file;
+mod reporting;
 mod running;
 mod saying;
 mod sentence;

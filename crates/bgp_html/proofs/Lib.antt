@@ -1,5 +1,7 @@
 mod Octets
 mod Texts
-mod Begun
+mod Names
 pub mod Seen
 pub mod Own
+mod Steps
+pub mod Reported

@@ -2,8 +2,10 @@
 pub mod Escaped
 pub mod Escaping
 pub mod Page
+pub mod Kinds
 pub mod Printed
-pub mod Printing
 pub mod Tags
 pub mod Pieces
 pub mod Reading
+pub mod Report
+pub mod Taking

@@ -2,6 +2,7 @@
 
 ghost use Rattle.bgp_html.specs.Escaped.{EscapedTextIsNoMarkup, EscapedTextIsThatTextAlone};
 ghost use Rattle.bgp_html.specs.Reading.{LinesArePrinted, WordsAreNoTags, WordsAreSeen};
+ghost use Rattle.bgp_html.specs.Report.{ReportsSayTheSame};
 
 /// Nothing of a text is markup: no octet of it begins or ends a tag, or ends the value of an
 /// attribute.
@@ -30,4 +31,10 @@ pub fn lines_are_printed()
 /// they come from.
 pub fn words_are_no_tags()
     ensures { WordsAreNoTags }
+{}
+
+/// A report says what is printed, word for word: whoever reads what stands in the elements that are
+/// called samp gets the text, and nothing else, whatever the file is called.
+pub fn reports_say_the_same()
+    ensures { ReportsSayTheSame }
 {}

@@ -9,16 +9,19 @@
 
 mod escaped;
 mod escaping;
+mod head;
 mod laws;
 mod page;
 mod printed;
+mod report;
 mod tag;
 
 pub use escaped::put_escaped;
 pub use escaping::Escaping;
 pub use laws::{
     escaped_text_is_no_markup, escaped_text_is_that_text_alone, lines_are_printed,
-    words_are_no_tags, words_are_seen,
+    reports_say_the_same, words_are_no_tags, words_are_seen,
 };
-pub use printed::{Kind, Printed};
+pub use printed::Kind;
+pub use report::Report;
 pub use tag::{Column, Mark, Tag, What, put_tag};

@@ -1,12 +1,13 @@
 //! Lines that stand in HTML as they are printed as text.
 
-ghost use Rattle.std.specs.Prelude.{◌≡◌, true, IsFalse};
+ghost use Rattle.std.specs.Prelude.{◌≡◌};
 ghost use Rattle.bgp_text.specs.Lines.{Writes};
-ghost use Rattle.bgp_html.specs.Printed.{begin_if, end_if, kind_end, kind_start};
+ghost use Rattle.bgp_html.specs.Kinds.{kind_of};
+ghost use Rattle.bgp_html.specs.Printed.{begun_html, kind_end, kind_start, printed_html};
 
 use crate::escaped::put_escaped;
 use bgp_text::Lines;
-use mrt::{Failed, Sink};
+use mrt::Sink;
 
 /// What lines say, which decides how they look.
 #[derive(Clone, Copy, Debug, PartialEq, Eq)]
@@ -46,7 +47,7 @@ fn put_start<W: Sink>(lines: &mut Lines<'_, W>, kind: Kind)
 }
 
 /// Puts the end of that element.
-fn put_end<W: Sink>(lines: &mut Lines<'_, W>, kind: Kind)
+pub(crate) fn put_end<W: Sink>(lines: &mut Lines<'_, W>, kind: Kind)
     ensures { Writes lines.old lines.new (kind_end kind) }
 {
     match kind {
@@ -59,78 +60,44 @@ fn put_end<W: Sink>(lines: &mut Lines<'_, W>, kind: Kind)
     }
 }
 
-/// A sink whose octets are put into HTML as lines of one kind: in an element of their own, if there
-/// are some. It never fails: if the sink behind it does, its lines tell of that.
-#[derive(Drop)]
-pub struct Printed<'a, 'b, W: Sink> {
-    lines: &'a mut Lines<'b, W>,
-    kind: Kind,
-    begun: bool,
-}
-
-impl<'a, 'b, W: Sink> Printed<'a, 'b, W> {
-    /// Returns a sink that has taken nothing yet.
-    pub fn new(lines: &'a mut Lines<'b, W>, kind: Kind) -> Printed<'a, 'b, W>
-        ensures same { result.lines.ghost_name ≡ lines.entry.ghost_name }
-        ensures now { result.lines.now ≡ lines.old }
-        ensures kind { result.kind ≡ kind }
-        ensures fresh { IsFalse result.begun }
-    {
-        Printed {
-            lines,
-            kind,
-            begun: false,
-        }
-    }
-
-    /// Puts the end of the element, if there is one.
-    pub fn end(&mut self)
-        ensures same { self.new.lines.ghost_name ≡ self.old.lines.ghost_name }
-        ensures puts { Writes self.old.lines.now self.new.lines.now
-            (end_if self.old.begun self.old.kind) }
-    {
-        if self.begun {
-            put_end(self.lines, self.kind);
-        }
-    }
-
-    /// Puts the start of the element, if it isn't there.
-    fn begin(&mut self)
-        ensures same { self.new.lines.ghost_name ≡ self.old.lines.ghost_name }
-        ensures kind { self.new.kind ≡ self.old.kind }
-        ensures begun { self.new.begun ≡ true }
-        ensures puts { Writes self.old.lines.now self.new.lines.now
-            (begin_if self.old.begun self.old.kind) }
-    {
-        if !self.begun {
-            put_start(self.lines, self.kind);
-            self.begun = true;
-        }
+/// Returns what a line says that begins so: the first four octets of it tell.
+pub(crate) fn kind_of(front: &[u8]) -> Kind
+    ensures { result ≡ kind_of front.now }
+{
+    if front.starts_with(b"  ") {
+        Kind::Beside
+    } else if front.starts_with(b"conn") || front.starts_with(b"sess") {
+        Kind::Connection
+    } else if front.starts_with(b"yes") {
+        Kind::Yes
+    } else if front.starts_with(b"no ") {
+        Kind::No
+    } else if front.starts_with(b"unfi") {
+        Kind::Unfinished
+    } else if front.starts_with(b"not ") {
+        Kind::NotJudged
+    } else if front.starts_with(b"ends") {
+        Kind::Totals
+    } else {
+        Kind::Whole
     }
 }
 
-impl<W: Sink> Sink for Printed<'_, '_, W> {
-    ghost use Rattle.bgp_html.specs.Printed.{Puts};
-    ghost use Rattle.bgp_html.specs.Printing.{puts_joined, puts_nothing};
+/// Puts the start of an element for a line that begins so, and that beginning.
+pub(crate) fn put_begun<W: Sink>(lines: &mut Lines<'_, W>, front: &[u8])
+    ensures { Writes lines.old lines.new (begun_html front.now) }
+{
+    put_start(lines, kind_of(front));
+    put_escaped(lines, front);
+}
 
-    ghost takes = { λ a b. Puts a.lines b.lines a.kind b.kind a.begun b.begun };
-
-    ghost failures = { λ a. 0 };
-
-    ghost nothing = { λ a. puts_nothing W.nothing a.lines a.kind a.begun };
-
-    ghost joined = { λ a b c. puts_joined W.joined a.lines b.lines c.lines a.kind b.kind c.kind
-        a.begun b.begun c.begun };
-
-    fn write(&mut self, octets: &[u8]) -> Result<usize, Failed> {
-        if !octets.is_empty() {
-            self.begin();
-            put_escaped(self.lines, octets);
-        }
-        Ok(octets.len())
+/// Puts a line in an element of its own, or nothing if it is empty.
+pub(crate) fn put_line<W: Sink>(lines: &mut Lines<'_, W>, line: &[u8])
+    ensures { Writes lines.old lines.new (printed_html (kind_of line.now) line.now) }
+{
+    if line.is_empty() {
+        return;
     }
-
-    fn failures(&self) -> u64 {
-        0
-    }
+    put_begun(lines, line);
+    put_end(lines, kind_of(line));
 }

@@ -9,10 +9,13 @@ use Rattle.clap.specs.declared.error.Error.{Error}
 use Rattle.clap.specs.declared.error.kind.ErrorKind.{ErrorKind}
 use Rattle.clap.specs.declared.error.kind.ErrorKind.TheVariants.{OutOfMemory}
 use Rattle.clap.proofs.OnLiterals.{clap_on_literals}
+use Rattle.bgp_words.specs.declared.check.CheckForm.{CheckForm}
+use Rattle.bgp_words.specs.declared.check.CheckForm.TheVariants as forms
 use Rattle.bgp_json.specs.declared.output_form.OutputForm.{OutputForm}
 use Rattle.bgp_json.specs.declared.output_form.OutputForm.TheVariants.{Text as AsText, Json}
 use Rattle.bgp_lines.specs.declared.form.LineForm.TheVariants.{Plain, Names as InWords}
 use Rattle.bgp_words.specs.Decode.{IsForm}
+use Rattle.bgp_words.specs.Import.{IsCheckForm}
 use Rattle.bgp_words.specs.Recording.{AreRecordingOptions}
 use Rattle.bgp_words.specs.Speak.{AreOptions, IsStart}
 use Rattle.bgp_words.specs.Values.{IsPortText, IsPositiveText, IsValue}
@@ -23,7 +26,7 @@ use Rattle.bgp_talk.specs.declared.options.Speaking.{Speaking}
 use Rattle.bgp_talk.specs.declared.options.Start.{Start}
 use Rattle.bgp_talk.specs.declared.options.Start.TheVariants.{Connect, Listen}
 use Rattle.bgp_words.specs.declared.words.Command.{Command}
-use Rattle.bgp_words.proofs.NamedCommand.{none_decoded, none_imported, none_listed, none_spoken}
+use Rattle.bgp_words.proofs.NamedCommand.{none_checked, none_decoded, none_imported, none_listed, none_spoken}
 
 -- what is found in a row
 abbrev found : Text → List Text → List Row
@@ -165,6 +168,25 @@ both_forms_of_capture name (AsText Plain) is = let bad : true ≡ false = is.0 i
 both_forms_of_capture name (AsText (InWords as2)) is = let bad : true ≡ false = is.1 in absurd (cc)
 both_forms_of_capture name (Json as2) is = let bad : true ≡ false = is.0 in absurd (cc)
 
+-- nor of `check`
+abbrev check_forms_words : List Text
+check_forms_words = codes "check" ∷ codes "--json" ∷ codes "--html" ∷ codes "a.pcap" ∷ []
+
+abbrev HasNoCheckForm : List Row → Type 0
+HasNoCheckForm rows = (form : CheckForm) → IsCheckForm form rows → ⊥
+
+both_check_forms : (name : Text) → HasNoCheckForm (found name check_forms_words)
+unfolding clap_on_literals
+both_check_forms name forms.Text is = let bad : true ≡ false = is.0 in absurd (cc)
+both_check_forms name forms.Json is = let bad : true ≡ false = is.1 in absurd (cc)
+both_check_forms name forms.Html is = let bad : true ≡ false = is.0 in absurd (cc)
+
+no_check : (name : Text) (row : List Text) → subcommand_of program_words (name ∷ row) ≡ Some (codes "check", found name row)
+    → HasNoCheckForm (found name row) → NamesNone name row
+no_check name row names none command named =
+    none_checked (found name row) (λ checking file is. none checking.form (let (_port, _within, _routes, _settings, _quiet, form, _file) = is in form))
+    command (subst (λ used. Names used command) names named)
+
 no_decode : (name : Text) (row : List Text) → subcommand_of program_words (name ∷ row) ≡ Some (codes "decode", found name row)
     → HasNoForm (found name row) → NamesNone name row
 no_decode name row names none command named =
@@ -198,7 +220,7 @@ rows_of_recordings : (name : Text) → AreRows name (
     import_with (codes "--port") (codes "65536") ∷ import_with (codes "--local-port") (codes "0")
     ∷ import_with (codes "--connection") (codes "0") ∷ import_with (codes "--within") (codes "65536")
     ∷ (codes "list" ∷ codes "--port" ∷ codes "0" ∷ codes "a.pcap" ∷ []) ∷ as2_words
-    ∷ as2_capture_words ∷ both_words ∷ both_capture_words ∷ [])
+    ∷ as2_capture_words ∷ both_words ∷ both_capture_words ∷ check_forms_words ∷ [])
 unfolding clap_on_literals
 rows_of_recordings name = (
   import_row name (codes "--port") (codes "65536") refl refl (high_port name),
@@ -219,7 +241,10 @@ rows_of_recordings name = (
               record { passes = refl; nothing = no_decode name as2_capture_words refl (as2_alone_of_capture name) },
               (
                 record { passes = refl; nothing = no_decode name both_words refl (both_forms name) },
-                (record { passes = refl; nothing = no_decode name both_capture_words refl (both_forms_of_capture name) }, tt),
+                (
+                  record { passes = refl; nothing = no_decode name both_capture_words refl (both_forms_of_capture name) },
+                  (record { passes = refl; nothing = no_check name check_forms_words refl (both_check_forms name) }, tt),
+                ),
               ),
             ),
           ),

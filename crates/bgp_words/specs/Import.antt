@@ -8,6 +8,8 @@ use Rattle.bgp_words.specs.Values.{IsPortText, IsSecondsText, IsValue, is_given}
 use Rattle.bgp_words.specs.Settings.{IsOfOneFamily, IsSession}
 use Rattle.bgp_words.specs.Recording.{AreRecordingOptions, refresh_told}
 use Rattle.bgp_import.specs.declared.options.RecordingOptions.{RecordingOptions}
+use Rattle.bgp_words.specs.declared.check.CheckForm.{CheckForm}
+use Rattle.bgp_words.specs.declared.check.CheckForm.TheVariants as forms
 use Rattle.bgp_words.specs.declared.check.Checking.{Checking}
 use Rattle.bgp_words.specs.declared.words.Command.{Command}
 use Rattle.bgp_words.specs.declared.words.Command.TheVariants.{Decode, Capture, Judge}
@@ -33,8 +35,18 @@ IsListing port json file rows =
     IsValue IsPortText (codes "port") rows port × (json ≡ is_given (codes "json") rows)
     × (first_of (codes "FILE") rows ≡ Some file)
 
+-- the form of what `check` prints: JSON with `--json`, and a report with `--html`, which aren't both
+-- given
+abbrev pub IsCheckForm : CheckForm → List Row → Type 0
+IsCheckForm forms.Text rows =
+    (is_given (codes "json") rows ≡ false) × (is_given (codes "html") rows ≡ false)
+IsCheckForm forms.Json rows =
+    (is_given (codes "json") rows ≡ true) × (is_given (codes "html") rows ≡ false)
+IsCheckForm forms.Html rows =
+    (is_given (codes "json") rows ≡ false) × (is_given (codes "html") rows ≡ true)
+
 -- the values of `check`: the port of the connections, the patience, whether routes and settings are
--- wanted, whether what is well is left out, and a file
+-- wanted, whether what is well is left out, the form, and a file
 abbrev pub IsChecking : Checking → Text → List Row → Type 0
 IsChecking checking file rows =
     IsValue IsPortText (codes "port") rows checking.port
@@ -42,7 +54,7 @@ IsChecking checking file rows =
     × (checking.routes ≡ is_given (codes "routes") rows)
     × (checking.settings ≡ is_given (codes "settings") rows)
     × (checking.quiet ≡ is_given (codes "quiet") rows)
-    × (checking.json ≡ is_given (codes "json") rows)
+    × IsCheckForm checking.form rows
     × (first_of (codes "FILE") rows ≡ Some file)
 
 -- a command to import can be done: its session is of one family, and its ends can be told apart

@@ -171,7 +171,7 @@ fault_rows =
 -- Words after the program's name in which no word is at fault, and a value or what is given beside
 -- it is: neither way to come to a connection, both, ports 0 and 65536, and 2 to the 63rd turns; of
 -- recordings ports 0 and 65536, connection 0, and 65536 seconds; AS numbers of two octets in lines
--- that aren't in words, and both words and JSON, of a stream and of a capture.
+-- that aren't in words, and both words and JSON, of a stream and of a capture; both JSON and HTML.
 abbrev pub value_rows : List (List Text)
 value_rows =
     speak_with (next_hop4 ++ next_hop6)
@@ -191,7 +191,8 @@ value_rows =
     ∷ codes "--local" ∷ codes "192.0.2.1" ∷ codes "a.mrt" ∷ [])
     ∷ (codes "decode" ∷ codes "--names" ∷ codes "--json" ∷ codes "a.bgp" ∷ [])
     ∷ (codes "decode" ∷ codes "--json" ∷ codes "--names" ∷ codes "--mrt" ∷ codes "--peer"
-    ∷ codes "192.0.2.2" ∷ codes "--local" ∷ codes "192.0.2.1" ∷ codes "a.mrt" ∷ []) ∷ []
+    ∷ codes "192.0.2.2" ∷ codes "--local" ∷ codes "192.0.2.1" ∷ codes "a.mrt" ∷ [])
+    ∷ (codes "check" ∷ codes "--json" ∷ codes "--html" ∷ codes "a.pcap" ∷ []) ∷ []
 
 -- an error of this kind, or memory was refused
 abbrev pub IsFault : ErrorKind → Result Command Error → Type 0

@@ -92,13 +92,14 @@ import_words =
 abbrev pub list_words : App
 list_words = with_rule (with_rule (with_file (codes "list")) port_word) (flag_word (codes "json"))
 
--- `check FILE`, with the port, the patience, and the wishes for routes, settings and JSON and that
--- what is well be left out (by its letter `q`, too), or without
+-- `check FILE`, with the port, the patience, and the wishes for routes, settings, JSON and HTML and
+-- that what is well be left out (by its letter `q`, too), or without
 abbrev pub check_words : App
 check_words =
-    with_rule (with_rule (with_rule (with_rule (with_rule (with_rule (with_file (codes "check"))
+    with_rule (with_rule (with_rule (with_rule (with_rule (with_rule (with_rule
+    (with_file (codes "check"))
     port_word) within_word) (flag_word (codes "routes"))) (flag_word (codes "settings")))
-    (letter_word (codes "quiet") 113)) (flag_word (codes "json"))
+    (letter_word (codes "quiet") 113)) (flag_word (codes "json"))) (flag_word (codes "html"))
 
 -- the options of `speak` that `judge` hasn't
 abbrev pub with_speaking : App → App

@@ -1,11 +1,12 @@
 //! The words of `check`.
 
-ghost use Rattle.std.specs.Prelude.{◌≡◌, ℕ, List, IfOk, IsErr, false, codes};
+ghost use Rattle.std.specs.Prelude.{◌≡◌, ◌↔◌, ℕ, List, IfOk, IsErr, IsOkAnd, false, codes};
 ghost use Rattle.clap.specs.Words.{app_of, found_of, rows_of};
 ghost use Rattle.clap.specs.declared.builder.command.Command.TheViews.{out-Command as fields_of};
+ghost use Rattle.bgp_words.specs.declared.check.CheckForm.{CheckForm as Form};
 ghost use Rattle.bgp_words.specs.declared.check.Checking.{Checking as TheChecking};
 ghost use Rattle.bgp_words.specs.Words.{check_words};
-ghost use Rattle.bgp_words.specs.Import.{IsChecking};
+ghost use Rattle.bgp_words.specs.Import.{IsCheckForm, IsChecking};
 ghost use Rattle.bgp_words.specs.Spelled.{NamesBy};
 
 use crate::misfit::Misfit;
@@ -62,6 +63,9 @@ has no session at all. The exit status says the same as without.
 check --json prints the same as JSON objects, one a line: of a connection or a session, of the answer
 on each end and each thing that is said beside it, and last of the counts.
 
+check --html prints the same with --routes and --settings as a report for a browser: one file of HTML
+that runs no script and loads nothing.
+
 ROUTE-REFRESH messages that their receiver's OPEN offers to read are passed over, and a note counts
 them. If a connection, a session or the file can't be read, a line says so, as those of bgp list do.
 
@@ -76,6 +80,17 @@ Exit status, the first of 5, 4, 1, 3, 2, 0 for which there is something:
 
 The manual is docs/bgp.1.md, at the top of the repository.";
 
+/// In which form `check` prints.
+#[derive(Clone, Copy, Debug, PartialEq, Eq)]
+pub enum CheckForm {
+    /// As text.
+    Text,
+    /// As JSON, an object a line.
+    Json,
+    /// As a report in HTML, in which the routes and the options of `judge` stand, too.
+    Html,
+}
+
 /// How `check` is asked for.
 #[derive(Clone, Copy, Debug, PartialEq, Eq)]
 pub struct Checking {
@@ -89,12 +104,12 @@ pub struct Checking {
     pub settings: bool,
     /// Whether the ends that are well or not judged are left out.
     pub quiet: bool,
-    /// Whether each line is a JSON object.
-    pub json: bool,
+    /// In which form all is printed.
+    pub form: CheckForm,
 }
 
 /// The words after `check`.
-static WORDS: [Word<'static>; 7] = [
+static WORDS: [Word<'static>; 8] = [
     READ,
     PORT,
     WITHIN,
@@ -109,6 +124,10 @@ static WORDS: [Word<'static>; 7] = [
         "Prints only what is a no, unfinished or refused",
     ),
     Word::Flag("json", "Prints each line as a JSON object"),
+    Word::Flag(
+        "html",
+        "Prints a report in HTML, with --routes and --settings",
+    ),
 ];
 
 /// What the words of `check` may be.
@@ -135,14 +154,33 @@ pub(crate) fn check_of<'a>(check: &ArgMatches<'a>) -> Result<Command<'a>, Misfit
 {
     let port = port_of(check, "port")?;
     let within = seconds_of(check, "within")?;
+    let form = check_form_of(check)?;
     let checking = Checking {
         port,
         within,
         routes: has_flag(check, "routes"),
         settings: has_flag(check, "settings"),
         quiet: has_flag(check, "quiet"),
-        json: has_flag(check, "json"),
+        form,
     };
     let file = value_of(check, "FILE")?;
     Ok(Command::Check { checking, file })
+}
+
+/// The form of what is printed: one of both is JSON, the other HTML.
+fn check_form_of<'a>(check: &ArgMatches<'a>) -> Result<CheckForm, Misfit<'a>>
+    ensures { (form : Form) → IsOkAnd result (λ it. it ≡ form)
+        ↔ IsCheckForm form (rows_of (found_of check.now)) }
+{
+    let json = has_flag(check, "json");
+    if has_flag(check, "html") {
+        if json {
+            return Err(Misfit::TWO_CHECK_FORMS);
+        }
+        return Ok(CheckForm::Html);
+    }
+    if json {
+        return Ok(CheckForm::Json);
+    }
+    Ok(CheckForm::Text)
 }

@@ -24,6 +24,6 @@ mod usage;
 mod values;
 mod words;
 
-pub use check::Checking;
+pub use check::{CheckForm, Checking};
 pub use judge::Reporting;
 pub use words::{Command, command_line};

@@ -151,6 +151,11 @@ impl Misfit<'static> {
         "--names and --json are both given: decode prints one of both",
     );
 
+    /// Both JSON and HTML are to be printed.
+    pub(crate) const TWO_CHECK_FORMS: Misfit<'static> = Misfit::Sentence(
+        "--json and --html are both given: check prints one of both",
+    );
+
     /// An AS number has more than two octets, and four-octet ones aren't offered.
     pub(crate) const FOUR_OCTETS: Misfit<'static> = Misfit::Sentence(
         "with --as2, --local-as and --peer-as want numbers up to 65535",

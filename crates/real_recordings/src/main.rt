@@ -16,7 +16,8 @@
 //! it has the lines that aren't indented.
 //! `names.txt` has captures and recordings that are decoded in words, and `json.txt` some that are
 //! decoded to JSON: rows worked out by hand, real sessions and random ones, which another program
-//! answered.
+//! answered. `reports.txt` has rows of the other tables as reports in HTML, which a script made of
+//! their lines.
 //! `options.txt` was worked out by hand from the RFCs and docs/bgp.1.md: for options of each command
 //! a file whose answer is another one by that option. All these are answered by the function that
 //! answers the program's commands (`answer_to` of bgp_commands), over octets in memory. Each

@@ -24,8 +24,10 @@ struct Import {
 
 /// A capture is made, of a file or of standard input; one that was there is replaced, though it was
 /// longer. Where the recording is refused, or can't be opened, what was there stays, and nothing is
-/// made; so it is where one name is given for both. No capture is made where there is no folder.
-static IMPORTS: [Import; 8] = [
+/// made; so it is where one name is given for both. No capture is made where there is no folder. Last
+/// a report on a file whose name is to be shown, and no markup, though it has brackets, quotation
+/// marks and a tab: nothing is written to it.
+static IMPORTS: [Import; 9] = [
     Import {
         words: "bgp import --local 192.0.2.1 --peer 192.0.2.2 session.pcap made.mrt",
         out: "made.mrt",
@@ -74,11 +76,17 @@ static IMPORTS: [Import; 8] = [
         before: None,
         after: None,
     },
+    Import {
+        words: "bgp check --html <b>&amp;\"'\t.pcap",
+        out: "<b>&amp;\"'\t.pcap",
+        before: Some("half.pcap"),
+        after: Some("half.pcap"),
+    },
 ];
 
 /// Command lines that write no file. `made.mrt` is there by now. By then standard input has ended,
 /// so that `-` is a file of no octet; a file of that name isn't there.
-static READERS: [&str; 27] = [
+static READERS: [&str; 28] = [
     "bgp list session.pcap",
     "bgp list half.pcap",
     "bgp list --port 1179 session.pcap",
@@ -91,6 +99,7 @@ static READERS: [&str; 27] = [
      --peer 192.0.2.2 --families both session.pcap",
     "bgp check --routes session.pcap",
     "bgp check --routes --settings made.mrt",
+    "bgp check --html made.mrt",
     "bgp list",
     "bgp list -",
     "bgp check -",

@@ -7,7 +7,7 @@ use bgp_lines::LineForm;
 use bgp_open::{ConfigParts, Families, RouteOffer};
 use bgp_prefix::{Address, RouteRefresh, Session};
 use bgp_talk::{Speaking, Start};
-use bgp_words::{Checking, Command, Reporting, command_line};
+use bgp_words::{CheckForm, Checking, Command, Reporting, command_line};
 use std::alloc::{AllocError, Global};
 use std::fmt::{Display, Write};
 use std::io;
@@ -171,10 +171,14 @@ fn put_check(text: &mut String, checking: &Checking, file: &str) -> Result<(), A
     let routes = if checking.routes { " routes" } else { "" };
     let settings = if checking.settings { " settings" } else { "" };
     let quiet = if checking.quiet { " quiet" } else { "" };
-    let json = if checking.json { " json" } else { "" };
+    let form = match checking.form {
+        CheckForm::Text => "",
+        CheckForm::Json => " json",
+        CheckForm::Html => " html",
+    };
     write!(
         text,
-        "check port {port} within {within}{routes}{settings}{quiet}{json} file {file:?}"
+        "check port {port} within {within}{routes}{settings}{quiet}{form} file {file:?}"
     )
 }
 

@@ -16,7 +16,7 @@ enum Kind {
     Prefixes,
 }
 
-static TABLES: [(&str, Kind); 15] = [
+static TABLES: [(&str, Kind); 16] = [
     ("cases.txt", Kind::Cases),
     ("judged.txt", Kind::Cases),
     ("explained.txt", Kind::Cases),
@@ -30,6 +30,7 @@ static TABLES: [(&str, Kind); 15] = [
     ("options.txt", Kind::Cases),
     ("names.txt", Kind::Cases),
     ("json.txt", Kind::Cases),
+    ("reports.txt", Kind::Cases),
     ("words.txt", Kind::CommandLines),
     ("announced.txt", Kind::Prefixes),
 ];

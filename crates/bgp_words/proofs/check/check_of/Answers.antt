@@ -10,7 +10,7 @@ returns-clause-ok c = (
     c.has_flag.ensures,
     c.has_flag-2.ensures,
     c.has_flag-3.ensures,
-    c.has_flag-4.ensures,
+    (c.in_ok-form.ensures c.in_ok-form.form).0 refl,
     c.in_ok-file.ensures.ok,
   ),
 )

@@ -7,9 +7,9 @@ use Rattle.bgp_words.proofs.check.check_words.Goals as goal
 
 abbrev words : App → App
 words check =
-    with_rule (with_rule (with_rule (with_rule (with_rule (with_rule (with_rule check (file_word (codes "FILE")))
+    with_rule (with_rule (with_rule (with_rule (with_rule (with_rule (with_rule (with_rule check (file_word (codes "FILE")))
     port_word) within_word) (flag_word (codes "routes"))) (flag_word (codes "settings")))
-    (letter_word (codes "quiet") 113)) (flag_word (codes "json"))
+    (letter_word (codes "quiet") 113)) (flag_word (codes "json"))) (flag_word (codes "html"))
 
 pub returns-clause-words : goal.returns-clause-words
 returns-clause-words c =

@@ -1,0 +1,20 @@
+-- What a line of `bgp check` says, by how it begins.
+use Rattle.std.specs.Prelude.{◌==◌, ◌||◌, ℕ, Bool, List, codes, if◌then◌else◌}
+use Rattle.std.specs.List.{starts_with}
+use Rattle.bgp_html.specs.declared.printed.Kind.{Kind}
+use Rattle.bgp_html.specs.declared.printed.Kind.TheVariants as kinds
+
+abbrev pub begins : List ℕ → List ℕ → Bool
+begins line word = starts_with ◌==◌ line word
+
+-- what is said beside an answer is indented
+abbrev pub kind_of : List ℕ → Kind
+kind_of line =
+    if begins line (codes "  ") then kinds.Beside else
+    if begins line (codes "conn") || begins line (codes "sess") then kinds.Connection else
+    if begins line (codes "yes") then kinds.Yes else
+    if begins line (codes "no ") then kinds.No else
+    if begins line (codes "unfi") then kinds.Unfinished else
+    if begins line (codes "not ") then kinds.NotJudged else
+    if begins line (codes "ends") then kinds.Totals else
+    kinds.Whole

@@ -1,0 +1,148 @@
+-- What a sink that never fails took of what is printed is a text in memory.
+use Rattle.std.proofs.Common.{◌≡◌, ◌+◌, ℕ, Bool, List, [], Option, arith, inl, inr, refl, subst, sym}
+use Rattle.bgp_tool.specs.Answer.{IsWritten}
+use Rattle.bgp_check_lines.specs.Printed.{IsWrittenIn}
+use Rattle.bgp_verdict_lines.specs.declared.form.VerdictForm.{VerdictForm}
+use Rattle.bgp_verdict_lines.specs.declared.form.VerdictForm.TheVariants as forms
+use Rattle.packets.specs.Packet.{Recorded}
+use Rattle.mrt.specs.declared.fault.CaptureFault.{CaptureFault}
+use Rattle.bgp_import.specs.declared.cut_short.CutShort.{CutShort}
+use Rattle.bgp_import.specs.declared.refusal.Refusal.{Refusal}
+use Rattle.bgp_check_tool.specs.Blocks.{Block}
+use Rattle.bgp_check_tool.specs.Checking.{ChecksRecording}
+use Rattle.bgp_check_tool.specs.Printed.{PrintsTrue}
+use Rattle.bgp_check_tool.specs.declared.nothing.NothingJudged.{NothingJudged}
+use Rattle.bgp_check_tool.specs.declared.options.CheckOptions.{CheckOptions}
+use Rattle.bgp_check_capture_tool.specs.Checking.{ChecksCapture}
+use Rattle.bgp_check_capture_tool.specs.Printed.{PrintsTrueNoes}
+use Rattle.bgp_check_capture_tool.specs.declared.nothing.NothingJudged.{NothingJudged as NoneJudged}
+use Rattle.bgp_check_capture_tool.specs.declared.options.CaptureOptions.{CaptureOptions}
+use Rattle.bgp_report.specs.Report.{TakesText, never_fails}
+
+module _ {T : Type 0} (takes : T → T → List ℕ → Type 0) (from to : T) where
+  -- what it took, and that this is printed to memory
+  abbrev InMemory : (List ℕ → Type 0) → Type 0
+  InMemory Prints = (written : List ℕ) × takes from to written × Prints written
+
+  all_written : (text : List ℕ) (code status : ℕ) → IsWritten takes (λ (a : T). 0) text code from to status
+      → InMemory (λ written. IsWritten TakesText never_fails text code [] written status)
+  all_written text code status wrote = (
+    wrote.written,
+    wrote.took,
+    record {
+      written = wrote.written;
+      left = wrote.left;
+      took = refl;
+      begun = wrote.begun;
+      all = elim wrote.all [
+        | inl calm ↦ inl (refl, calm.1, calm.2)
+        | inr broken ↦ let one = broken.0 in absurd (omega (arith, one))
+      ];
+    },
+  )
+
+  written_in : (form : VerdictForm) → form ≡ forms.Text → (text : List ℕ) (code status : ℕ) → IsWrittenIn form takes (λ (a : T). 0) text code from to status
+      → InMemory (λ written. IsWrittenIn form TakesText never_fails text code [] written status)
+  written_in form is text code status wrote =
+      subst (λ (f : VerdictForm). InMemory (λ written. IsWrittenIn f TakesText never_fails text code [] written status)) (sym is)
+      (all_written text code status (subst (λ (f : VerdictForm). IsWrittenIn f takes (λ (a : T). 0) text code from to status) is wrote))
+
+  -- ---- of a recording
+
+  module _ {S : Type 0} (gives : S → S → List ℕ → Type 0) (has_ended : S → Bool) (source_failures : S → ℕ) (source source' : S) (status : ℕ) where
+    pub printed_of : (AreTrue : CheckOptions → List Recorded → ℕ → Block → Type 0) (options : CheckOptions) (cut : Option CutShort)
+        → PrintsTrue AreTrue gives has_ended takes (λ (a : T). 0) options source source' from to status cut → options.form ≡ forms.Text
+        → InMemory (λ written. PrintsTrue AreTrue gives has_ended TakesText never_fails options source source' [] written status cut)
+    printed_of AreTrue options cut p is =
+        let wrote = written_in options.form is _ _ status p.written in (
+          wrote.0,
+          wrote.1,
+          record {
+            packets = p.packets;
+            short = p.short;
+            stopped = p.stopped;
+            read = p.read;
+            blocks = p.blocks;
+            told = p.told;
+            are_true = p.are_true;
+            lacking = p.lacking;
+            tally = p.tally;
+            written = wrote.2;
+          },
+        )
+
+    pub checked_of : (options : CheckOptions) (cut : Option CutShort) (firsts : List (Option Refusal)) (refusal : Option Refusal) (nothing : Option NothingJudged)
+        → ChecksRecording gives has_ended takes source_failures (λ (a : T). 0) options source source' from to status cut firsts refusal nothing
+        → options.form ≡ forms.Text
+        → InMemory (λ written. ChecksRecording gives has_ended TakesText source_failures never_fails options source source' [] written status cut firsts refusal nothing)
+    checked_of options cut firsts refusal nothing p is =
+        let wrote = written_in options.form is _ _ status p.written in (
+          wrote.0,
+          wrote.1,
+          record {
+            packets = p.packets;
+            short = p.short;
+            stopped = p.stopped;
+            read = p.read;
+            counted = p.counted;
+            is_cut_short = p.is_cut_short;
+            lacking = p.lacking;
+            lacks = p.lacks;
+            is_refusal = p.is_refusal;
+            blocks = p.blocks;
+            told = p.told;
+            rise = p.rise;
+            none = p.none;
+            some = p.some;
+            all = p.all;
+            tally = p.tally;
+            counts = p.counts;
+            are_firsts = p.are_firsts;
+            is_nothing = p.is_nothing;
+            written = wrote.2;
+          },
+        )
+
+    -- ---- of a capture
+
+    pub printed_of_capture : (options : CaptureOptions) (fault : Option CaptureFault)
+        → PrintsTrueNoes gives has_ended takes (λ (a : T). 0) options source source' from to status fault → options.form ≡ forms.Text
+        → InMemory (λ written. PrintsTrueNoes gives has_ended TakesText never_fails options source source' [] written status fault)
+    printed_of_capture options fault p is =
+        let wrote = written_in options.form is _ _ status p.written in (
+          wrote.0,
+          wrote.1,
+          record {
+            octets = p.octets;
+            ending = p.ending;
+            held = p.held;
+            text = p.text;
+            noes = p.noes;
+            tally = p.tally;
+            written = wrote.2;
+          },
+        )
+
+    pub checked_of_capture : (options : CaptureOptions) (firsts : List (Option CaptureFault)) (count : ℕ) (fault : Option CaptureFault) (nothing : Option NoneJudged)
+        → ChecksCapture gives has_ended takes source_failures (λ (a : T). 0) options source source' from to status firsts count fault nothing → options.form ≡ forms.Text
+        → InMemory (λ written. ChecksCapture gives has_ended TakesText source_failures never_fails options source source' [] written status firsts count fault nothing)
+    checked_of_capture options firsts count fault nothing p is =
+        let wrote = written_in options.form is _ _ status p.written in (
+          wrote.0,
+          wrote.1,
+          record {
+            octets = p.octets;
+            ending = p.ending;
+            held = p.held;
+            counted = p.counted;
+            text = p.text;
+            of_sessions = p.of_sessions;
+            of_blocks = p.of_blocks;
+            tells = p.tells;
+            tally = p.tally;
+            counts = p.counts;
+            are_firsts = p.are_firsts;
+            is_nothing = p.is_nothing;
+            written = wrote.2;
+          },
+        )
