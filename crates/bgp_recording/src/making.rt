@@ -152,11 +152,14 @@ pub fn make_records<'a, A: Allocator + Copy>(
 {
     let framed = frame_connection(alloc, connection, framings)?;
     let entries = made_entries(alloc, framed.exchange(connection), within)?;
+    let (received, sent) = (framed.received.unshown, framed.sent.unshown);
+    // The messages are let go before the records are listed, so that both never stand in memory.
+    drop(framed);
     let records = records_of(alloc, &entries)?;
     Ok(Recording {
         entries,
         records,
-        received: framed.received.unshown,
-        sent: framed.sent.unshown,
+        received,
+        sent,
     })
 }

@@ -152,8 +152,14 @@ impl Ord for V4Key {
     ghost matches_eq = { Prim.search (comparing, rules) };
 
     fn cmp(&self, other: &V4Key) -> Ordering {
-        let by_number = self.number().cmp(&other.number());
-        by_number.then(self.length().cmp(&other.length()))
+        let (number, other_number) = (self.number(), other.number());
+        if number > other_number {
+            Ordering::Greater
+        } else if number < other_number {
+            Ordering::Less
+        } else {
+            self.length().cmp(&other.length())
+        }
     }
 }
 
@@ -258,7 +264,13 @@ impl Ord for V6Key {
     ghost matches_eq = { Prim.search (comparing, rules) };
 
     fn cmp(&self, other: &V6Key) -> Ordering {
-        let by_number = self.number().cmp(&other.number());
-        by_number.then(self.length().cmp(&other.length()))
+        let (number, other_number) = (self.number(), other.number());
+        if number > other_number {
+            Ordering::Greater
+        } else if number < other_number {
+            Ordering::Less
+        } else {
+            self.length().cmp(&other.length())
+        }
     }
 }
