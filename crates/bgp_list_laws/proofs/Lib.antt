@@ -7,3 +7,5 @@ pub mod Lines
 pub mod Sessions
 pub mod Printed
 pub mod Captures
+pub mod VisibleMembers
+pub mod VisibleLists

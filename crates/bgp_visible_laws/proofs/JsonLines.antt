@@ -55,11 +55,11 @@ use Rattle.bgp_visible_laws.proofs.Visible.{is_word, word}
 
 -- ---- lines
 
-line_of : (value : Json) (line : List ℕ) → line ≡ json_line value → AreTexts value → IsVisibleLine line
+pub line_of : (value : Json) (line : List ℕ) → line ≡ json_line value → AreTexts value → IsVisibleLine line
 unfolding json_line
 line_of value line is are = (print (json_tokens value), is, print_visible value are)
 
-typed_texts : (kind : List ℕ) → is_word kind ≡ true → (ms : List (List ℕ × Json)) → HaveTexts ms → AreTexts (typed kind ms)
+pub typed_texts : (kind : List ℕ) → is_word kind ≡ true → (ms : List (List ℕ × Json)) → HaveTexts ms → AreTexts (typed kind ms)
 typed_texts kind is ms each = of_object ((codes "type", string kind) ∷ ms) (field (codes "type") refl (of_text (word kind is)) each)
 
 -- ---- places
@@ -71,7 +71,7 @@ of_packet (Some packet) = field (codes "packet") refl (of_number packet) tt
 of_record : (place : RecordPlace) → HaveTexts (record_members place)
 of_record place = field (codes "record") refl (of_number place.number) (field (codes "second") refl (of_number place.second) (of_packet place.packet))
 
-of_direction : (direction : Direction) → AreTexts (direction_json direction)
+pub of_direction : (direction : Direction) → AreTexts (direction_json direction)
 of_direction Received = of_text (word (codes "received") refl)
 of_direction Sent = of_text (word (codes "sent") refl)
 
@@ -172,7 +172,7 @@ name_word kinds.AddPath = refl
 name_word kinds.Device = refl
 name_word kinds.Memory = refl
 
-refusal_texts : (fault : CaptureFault) → AreTexts (capture_json fault)
+pub refusal_texts : (fault : CaptureFault) → AreTexts (capture_json fault)
 refusal_texts fault =
     typed_texts (codes "refused") refl
     (refusal_members (codes "capture") (fault_number fault.kind) (fault_name fault.kind) ++ (codes "at", number_of fault.offset) ∷ [])

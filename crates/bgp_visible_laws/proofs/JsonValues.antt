@@ -1,5 +1,5 @@
 -- What capabilities, attributes and NOTIFICATIONs say in JSON has nothing hidden.
-use Rattle.std.proofs.Common.{◌≡◌, ◌++◌, ◌==◌, ◌||◌, ◌%◌, ℕ, Bool, true, false, List, [], ◌∷◌, Option, None, Some, bytes_eq, codes, drop, if◌then◌else◌, refl, slice_index, subst}
+use Rattle.std.proofs.Common.{◌≡◌, ◌++◌, ◌==◌, ◌||◌, ◌%◌, ℕ, Bool, true, false, List, [], ◌∷◌, Option, None, Some, bytes_eq, codes, drop, if◌then◌else◌, nat_lt, refl, slice_index, subst}
 use Rattle.std.specs.Fmt.{decimal}
 use Rattle.std.proofs.lemmas.List.Elements.{All-drop}
 use Rattle.std.proofs.lemmas.Option.{cond_some, none-some}
@@ -37,6 +37,7 @@ use Rattle.bgp_json_values.specs.Objects.{number_of}
 use Rattle.bgp_json_values.specs.Octets.{octets_members, value_or_octets}
 use Rattle.bgp_json_values.specs.RoutesJson.{destination_json, destinations_json, hop_addresses, hop_members, path_ids_json, path_ids_members, routes_json, spelled_routes}
 use Rattle.bgp_json_values.specs.Texts.{address_json, octets_json}
+use Rattle.bgp_json_values.specs.Times.{micro_members, time_members}
 use Rattle.bgp_json_laws.specs.Laws.{IsAttribute, IsTriplet}
 use Rattle.bgp_json_laws.proofs.Paths.{IsSegmentOf, each_segment}
 use Rattle.bgp_json_laws.proofs.Pieces.{IsPiece, each_piece}
@@ -229,7 +230,7 @@ of_routes announced name readable form (other afi safi octets) is = family afi s
 
 -- ---- any attribute
 
-if_texts : (is_so : Bool) (ms ns : List (List ℕ × Json)) → HaveTexts ms → HaveTexts ns → HaveTexts (if is_so then ms else ns)
+pub if_texts : (is_so : Bool) (ms ns : List (List ℕ × Json)) → HaveTexts ms → HaveTexts ns → HaveTexts (if is_so then ms else ns)
 if_texts true ms ns first second = first
 if_texts false ms ns first second = second
 
@@ -275,3 +276,12 @@ of_cause (Some cause) each = field (codes "cause") refl (of_object (plain_error_
 pub of_error : (e : ErrorFields) → AreOctets e.detail → HaveTexts (error_members e)
 of_error e are =
     of_both (plain_error_members e) (cause_members (cause_of e)) (of_plain_error e are) (of_cause (cause_of e) (λ cause found. cause_are _ e.detail cause are found))
+
+-- ---- times
+
+of_micro : (micro : Option ℕ) → HaveTexts (micro_members micro)
+of_micro None = tt
+of_micro (Some micro) = if_texts (nat_lt micro 1000000) ((codes "micro", number_of micro) ∷ []) [] (field (codes "micro") refl (of_number micro) tt) tt
+
+pub of_time : (second : ℕ) (micro : Option ℕ) → HaveTexts (time_members second micro)
+of_time second micro = field (codes "second") refl (of_number second) (of_micro micro)

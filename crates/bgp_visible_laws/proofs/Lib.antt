@@ -6,3 +6,5 @@ pub mod Lines
 pub mod JsonTexts
 pub mod JsonValues
 pub mod JsonLines
+pub mod Refusals
+pub mod Printed

@@ -1,13 +1,15 @@
 -- What the laws say of lines in JSON: none has a control character but the line feed at its end.
-use Rattle.std.specs.Prelude.{ℕ, Bool, List}
+use Rattle.std.specs.Prelude.{ℕ, Bool, List, Option}
 use Rattle.mrt.specs.declared.fault.CaptureFault.{CaptureFault}
 use Rattle.bgp_prefix.specs.declared.session.Session.{Session}
 use Rattle.bgp_wire.specs.Octets.{AreOctets}
 use Rattle.bgp_wire.specs.declared.header.HeaderFaults.{HeaderFaults}
 use Rattle.bgp_values.specs.declared.opens.Direction.{Direction}
+use Rattle.bgp_import.specs.Refusals.{refusal_name, refusal_number, refusal_packet}
+use Rattle.bgp_import.specs.declared.refusal.Refusal.{Refusal}
 use Rattle.bgp_lines.specs.Form.{Before, PlacedRecord}
 use Rattle.bgp_json.specs.Object.{json_line}
-use Rattle.bgp_json.specs.Others.{capture_json, header_json, rest_json}
+use Rattle.bgp_json.specs.Others.{capture_json, header_json, recording_json, rest_json}
 use Rattle.bgp_json.specs.RecordJson.{IsFrameLine, IsPlacedLine}
 use Rattle.bgp_json.specs.declared.place.Place.{Place}
 use Rattle.bgp_visible_laws.specs.Laws.{HasOctets}
@@ -41,3 +43,10 @@ JsonRestsAreVisible =
 -- that of a capture that is refused
 abbrev pub JsonRefusalsAreVisible : Type 0
 JsonRefusalsAreVisible = (fault : CaptureFault) → IsVisibleLine (json_line (capture_json fault))
+
+-- and that of a recording that is refused, whichever octet of a stream it names
+abbrev pub JsonRecordingsAreVisible : Type 0
+JsonRecordingsAreVisible =
+    (refusal : Refusal) (octet : Option (Direction × ℕ))
+    → IsVisibleLine (json_line (recording_json (refusal_number refusal) (refusal_name refusal)
+    (refusal_packet refusal) octet))

@@ -1,6 +1,6 @@
 -- Text without a control character.
-use Rattle.std.specs.Prelude.{◌≡◌, ◌||◌, ◌++◌, nat_lt, ℕ, Bool, false, List, IsUtf8, codes}
-use Rattle.std.specs.List.{list_any}
+use Rattle.std.specs.Prelude.{◌≡◌, ◌||◌, ◌++◌, nat_lt, ℕ, Bool, false, List, All, IsUtf8, codes}
+use Rattle.std.specs.List.{concat, list_any}
 use Rattle.std.specs.Str.{chars}
 use Rattle.bgp_values.specs.Readable.{is_hidden}
 
@@ -16,3 +16,8 @@ pub record IsVisible (text : List ℕ) : Type 0 where
 -- a line: such a text, and a line feed at its end
 abbrev pub IsVisibleLine : List ℕ → Type 0
 IsVisibleLine line = (text : List ℕ) × (line ≡ text ++ codes "\n") × IsVisible text
+
+-- such lines, one behind another
+abbrev pub AreVisibleLines : List ℕ → Type 0
+AreVisibleLines text =
+    (lines : List (List ℕ)) × (text ≡ concat lines) × All IsVisibleLine lines

@@ -1,4 +1,7 @@
 mod Cut
-mod Parts
-mod Reasons
-mod Lines
+pub mod Parts
+pub mod Reasons
+pub mod Lines
+pub mod JsonMembers
+pub mod JsonRoutes
+pub mod JsonLines

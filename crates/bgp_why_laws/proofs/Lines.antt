@@ -1,4 +1,5 @@
--- The lines of a verdict and its reason are such whose objects determine their texts.
+-- The lines of a verdict and its reason are such whose objects determine their texts, and whose texts
+-- are visible.
 use Rattle.std.proofs.Common.{◌≡◌, ◌<◌, ℕ, Bool, false, List, [], ◌∷◌, Option, None, Some, All, IsUtf8, arith, codes, map, refl, subst, inl, inr}
 use Rattle.std.proofs.lemmas.List.Elements.{All-cons, All-head, All-nil, All-tail, All-weaker}
 use Rattle.std.proofs.lemmas.Str.{IsCharBoundary-after_ascii, IsUtf8-drop}
@@ -17,8 +18,8 @@ use Rattle.bgp_why.specs.Lacks.{but_text}
 use Rattle.bgp_why.specs.NoteLines.{note_text}
 use Rattle.bgp_why.specs.declared.items.Item.{Item}
 use Rattle.bgp_why.specs.declared.lacks.Lacks.{Lacks}
-use Rattle.bgp_json_verdicts.specs.Lines.{HasRoute, InAnotherOrder, Note as NoteLine, Possible, Reasons, item_values, note_values, other_item_values, route_value}
-use Rattle.bgp_verdict_laws.specs.Laws.{IsFilled, IsLine, IsMarkedIfAny}
+use Rattle.bgp_json_verdicts.specs.Lines.{Ends, HasRoute, InAnotherOrder, Note as NoteLine, Possible, Reasons, item_values, note_values, other_item_values, route_value}
+use Rattle.bgp_verdict_laws.specs.Laws.{IsFilled, IsMarkedIfAny}
 use Rattle.bgp_verdict_laws.specs.Marks.{IsBehindIfAny}
 use Rattle.bgp_verdict_laws.proofs.Marks.{asks_marked, lack_is_marked, update_asks_marked}
 use Rattle.bgp_visible_laws.specs.Visible.{IsVisible}
@@ -29,6 +30,7 @@ use Rattle.bgp_visible_laws.proofs.Visible.{both, word}
 use Rattle.bgp_why_laws.specs.Lines.{DataAreLines, EndsAreLines, ItemsAreLines, MessagesAreLines, NotesAreLines, OthersAreLines, ReceivedAreLines, RecordsAreLines, UpdatesAreLines}
 use Rattle.bgp_why_laws.specs.Octets.{AreLacks, IsItem}
 use Rattle.bgp_why_laws.specs.Texts.{CutsAreVisible, DataAreVisible}
+use Rattle.bgp_why_laws.specs.Visible.{IsPutLine}
 use Rattle.bgp_why_laws.proofs.Cut.{cut_visible}
 use Rattle.bgp_why_laws.proofs.Reasons.{asks_visible, buts_visible, causes_visible, deeds_visible, items_visible, names_visible, notes_visible, update_asks_visible}
 
@@ -61,13 +63,16 @@ semicolon_marked text visible (inr b) = inr record {
 
 pub records : {X : Type 0} (lacks : Lacks X) → RecordsAreLines lacks
 records lacks session peer form shown place local deed faults p at done is are =
-    (at, (both (deeds_visible session peer form shown deed done) (causes_visible lacks faults p is are)).utf8)
+    let visible = both (deeds_visible session peer form shown deed done) (causes_visible lacks faults p is are) in
+    record { determined = (at, visible.utf8); visible = visible }
 
 pub cuts_visible : CutsAreVisible
 cuts_visible reading limit octets text are is = cut_visible text (told_visible reading limit octets text are is)
 
 pub messages : MessagesAreLines
-messages reading limit octets text are is = (cuts_visible reading limit octets text are is).utf8
+messages reading limit octets text are is =
+    let visible = cuts_visible reading limit octets text are is in
+    record { determined = visible.utf8; visible = visible }
 
 bracketed : (e : ErrorFields) → IsVisible (bracketed_codes_text e)
 unfolding bracketed_codes_text
@@ -90,42 +95,53 @@ data_visible_all e are =
     cut_visible (caused_data_text e (cause_of e)) (caused_data e are (cause_of e) (λ cause found. cause_are _ e.detail cause are found))
 
 pub data_lines : DataAreLines
-data_lines e are = (data_visible_all e are).utf8
+data_lines e are =
+    let visible = data_visible_all e are in
+    record { determined = visible.utf8; visible = visible }
 
 -- ---- the message that was received last
 
 pub received : ReceivedAreLines
 received first place name is_free state message at =
-    (at, (names_visible name).utf8, colon_marked (asked_text is_free state message) (asks_visible is_free state message) (asks_marked is_free state message))
+    let named = names_visible name in
+    let asks = asks_visible is_free state message in
+    record { determined = (at, named.utf8, colon_marked (asked_text is_free state message) asks (asks_marked is_free state message)); visible = (named, asks) }
 
 pub updates : UpdatesAreLines
 updates first place name applied refused parts at has outcome =
-    (at, (names_visible name).utf8, colon_marked (update_asks applied refused parts) (update_asks_visible applied refused parts has) (inr (update_asks_marked applied refused parts outcome)))
+    let named = names_visible name in
+    let asks = update_asks_visible applied refused parts has in
+    record { determined = (at, named.utf8, colon_marked (update_asks applied refused parts) asks (inr (update_asks_marked applied refused parts outcome))); visible = (named, asks) }
 
 -- ---- items and notes
 
 one_item : {X : Type 0} (lacks : Lacks X) (is_owed is_next is_first : Bool) (first : ℕ) (faults : Option OwnFaults) (item : Item) → IsItem item → AreLacks lacks
-    → IsLine (Reasons (Possible is_owed is_next is_first (item_text first item) (but_text faults lacks item)))
+    → IsPutLine (Reasons (Possible is_owed is_next is_first (item_text first item) (but_text faults lacks item)))
 one_item lacks is_owed is_next is_first first faults item is are =
-    ((items_visible first item is).utf8, semicolon_marked (but_text faults lacks item) (buts_visible lacks faults item are) (lack_is_marked lacks faults item))
+    let may_come = items_visible first item is in
+    let but = buts_visible lacks faults item are in
+    record { determined = (may_come.utf8, semicolon_marked (but_text faults lacks item) but (lack_is_marked lacks faults item)); visible = (may_come, but) }
 
 pub items : {X : Type 0} (lacks : Lacks X) → ItemsAreLines lacks
-items lacks is_owed is_next is_first first faults [] all are = All-nil IsLine
+items lacks is_owed is_next is_first first faults [] all are = All-nil IsPutLine
 items lacks is_owed is_next is_first first faults (item ∷ list) all are =
-    All-cons IsLine (Reasons (Possible is_owed is_next is_first (item_text first item) (but_text faults lacks item))) (item_values is_owed is_next false first (but_text faults lacks) list)
+    All-cons IsPutLine (Reasons (Possible is_owed is_next is_first (item_text first item) (but_text faults lacks item))) (item_values is_owed is_next false first (but_text faults lacks) list)
     (one_item lacks is_owed is_next is_first first faults item (All-head IsItem item list all) are)
     (items lacks is_owed is_next false first faults list (All-tail IsItem item list all) are)
 
 pub others : OthersAreLines
-others first [] all = All-nil IsLine
+others first [] all = All-nil IsPutLine
 others first (item ∷ list) all =
-    All-cons IsLine (Reasons (InAnotherOrder (item_text first item))) (other_item_values first list) (items_visible first item (All-head IsItem item list all)).utf8
+    let visible = items_visible first item (All-head IsItem item list all) in
+    All-cons IsPutLine (Reasons (InAnotherOrder (item_text first item))) (other_item_values first list) record { determined = visible.utf8; visible = visible }
     (others first list (All-tail IsItem item list all))
 
 pub notes : NotesAreLines
-notes [] = All-nil IsLine
+notes [] = All-nil IsPutLine
 notes (None ∷ list) = notes list
-notes (Some note ∷ list) = All-cons IsLine (Reasons (NoteLine (note_text note))) (note_values list) (notes_visible note).utf8 (notes list)
+notes (Some note ∷ list) =
+    let visible = notes_visible note in
+    All-cons IsPutLine (Reasons (NoteLine (note_text note))) (note_values list) record { determined = visible.utf8; visible = visible } (notes list)
 
 -- ---- ends
 
@@ -135,11 +151,11 @@ filled segment is = is.some
 abbrev IsRoute : Destination × PathValue → Type 0
 IsRoute route = IsFit route.1
 
-routes : (list : List (Destination × PathValue)) → All IsRoute list → All IsLine (map route_value list)
-routes [] all = All-nil IsLine
+routes : (list : List (Destination × PathValue)) → All IsRoute list → All IsPutLine (map route_value list)
+routes [] all = All-nil IsPutLine
 routes (route ∷ list) all =
-    All-cons IsLine (HasRoute route.0 route.1) (map route_value list)
-    (All-weaker IsPathSegment IsFilled filled route.1.as_path (All-head IsRoute route list all).segments) (routes list (All-tail IsRoute route list all))
+    let full = All-weaker IsPathSegment IsFilled filled route.1.as_path (All-head IsRoute route list all).segments in
+    All-cons IsPutLine (HasRoute route.0 route.1) (map route_value list) record { determined = full; visible = tt } (routes list (All-tail IsRoute route list all))
 
 pub ends : EndsAreLines
-ends e all = All-cons IsLine _ (map route_value e.routes.entries) tt (routes e.routes.entries all)
+ends e all = All-cons IsPutLine (Ends e.fsm e.routes.disabled) (map route_value e.routes.entries) record { determined = tt; visible = tt } (routes e.routes.entries all)

@@ -468,7 +468,10 @@ resembled_visible : {X : Type 0} (faults : Option OwnFaults) (p : Possible) (lac
 resembled_visible faults p lacks are =
     if_visible (is_resembled p lacks) _ [] (lacks_visible (codes ": ") (codes ": ") (word (codes ": ") refl) (word (codes ": ") refl) faults lacks are) nothing
 
+pub due_cause_visible : (p : Possible) → IsOctetIfAny p.header_errors.kind → IsVisible (due_first (message_due p))
+due_cause_visible p is =
+    due_first_visible (message_due p) (only_is (messages_in (those_possible (all_items p))) (messages_are (those_possible (all_items p)) (possible_are p is)))
+
 pub causes_visible : {X : Type 0} (lacks : Lacks X) → CausesAreVisible lacks
 causes_visible lacks faults p is are =
-    if_visible p.message _ _ (both (word (codes ", not allowed here") refl) (resembled_visible faults p lacks are))
-    (due_first_visible (message_due p) (only_is (messages_in (those_possible (all_items p))) (messages_are (those_possible (all_items p)) (possible_are p is))))
+    if_visible p.message _ _ (both (word (codes ", not allowed here") refl) (resembled_visible faults p lacks are)) (due_cause_visible p is)

@@ -1,3 +1,4 @@
 pub mod Octets
 pub mod Texts
+pub mod Visible
 pub mod Lines

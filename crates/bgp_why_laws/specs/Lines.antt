@@ -1,5 +1,5 @@
 -- What the laws say of the lines of a verdict and its reason: each is one whose object determines
--- its text.
+-- its text, and whose texts are visible.
 use Rattle.std.specs.Prelude.{◌++◌, ℕ, Bool, List, Option, All}
 use Rattle.bgp_prefix.specs.Shown.{ShownRecord}
 use Rattle.bgp_prefix.specs.declared.address.Address.{Address}
@@ -38,9 +38,10 @@ use Rattle.bgp_json_verdicts.specs.At.{at_of}
 use Rattle.bgp_json_verdicts.specs.Lines.{LastReceived, Reasons, TheData, TheMessage}
 use Rattle.bgp_json_verdicts.specs.Lines.{TheRecord, end_lines, item_values, note_values}
 use Rattle.bgp_json_verdicts.specs.Lines.{other_item_values}
-use Rattle.bgp_verdict_laws.specs.Laws.{IsLine, IsPlace}
+use Rattle.bgp_verdict_laws.specs.Laws.{IsPlace}
 use Rattle.bgp_verdict_laws.specs.Marks.{HasOutcome}
 use Rattle.bgp_why_laws.specs.Octets.{AreLacks, HasOctets, IsItem, IsOctetIfAny}
+use Rattle.bgp_why_laws.specs.Visible.{IsPutLine}
 
 -- the impossible record
 abbrev pub RecordsAreLines : {X : Type 0} → Lacks X → Type 0
@@ -49,25 +50,25 @@ RecordsAreLines lacks =
     (place : Place) (local : Address) (deed : List ℕ) (faults : Option OwnFaults)
     (p : reason.Possible) → IsPlace place → IsDeed session peer form shown deed
     → IsOctetIfAny p.header_errors.kind → AreLacks lacks
-    → IsLine (Reasons (TheRecord place local (deed ++ cause_text faults p lacks)))
+    → IsPutLine (Reasons (TheRecord place local (deed ++ cause_text faults p lacks)))
 
 -- its message, and its data
 abbrev pub MessagesAreLines : Type 0
 MessagesAreLines =
     (reading : Reading) (limit : Limit) (octets text : List ℕ) → AreOctets octets
-    → IsNamedMessage reading limit octets text → IsLine (Reasons (TheMessage (cut text)))
+    → IsNamedMessage reading limit octets text → IsPutLine (Reasons (TheMessage (cut text)))
 
 abbrev pub DataAreLines : Type 0
 DataAreLines =
     (error : ErrorFields) → AreOctets error.detail
-    → IsLine (Reasons (TheData (cut (error_data_text error))))
+    → IsPutLine (Reasons (TheData (cut (error_data_text error))))
 
 -- the message that was received last
 abbrev pub ReceivedAreLines : Type 0
 ReceivedAreLines =
     (first : ℕ) (place : Place) (name : MessageName) (is_free : Bool) (state : Fsm)
     (message : Received) → IsPlace place
-    → IsLine (Reasons (LastReceived (at_of first place) (name_text name)
+    → IsPutLine (Reasons (LastReceived (at_of first place) (name_text name)
     (asked_text is_free state message)))
 
 -- and if it is an UPDATE in Established
@@ -76,7 +77,7 @@ UpdatesAreLines =
     (first : ℕ) (place : Place) (name : MessageName) (applied : Option Applying)
     (refused : Subcodes) (parts : List Part) → IsPlace place → All HasOctets parts
     → HasOutcome applied refused
-    → IsLine (Reasons (LastReceived (at_of first place) (name_text name)
+    → IsPutLine (Reasons (LastReceived (at_of first place) (name_text name)
     (update_asks applied refused parts)))
 
 -- what may come, and what may come in other orders
@@ -84,18 +85,18 @@ abbrev pub ItemsAreLines : {X : Type 0} → Lacks X → Type 0
 ItemsAreLines lacks =
     (is_owed is_next is_first : Bool) (first : ℕ) (faults : Option OwnFaults)
     (items : List Item) → All IsItem items → AreLacks lacks
-    → All IsLine (item_values is_owed is_next is_first first (but_text faults lacks) items)
+    → All IsPutLine (item_values is_owed is_next is_first first (but_text faults lacks) items)
 
 abbrev pub OthersAreLines : Type 0
 OthersAreLines =
     (first : ℕ) (items : List Item) → All IsItem items
-    → All IsLine (other_item_values first items)
+    → All IsPutLine (other_item_values first items)
 
 abbrev pub NotesAreLines : Type 0
-NotesAreLines = (notes : List (Option Note)) → All IsLine (note_values notes)
+NotesAreLines = (notes : List (Option Note)) → All IsPutLine (note_values notes)
 
 -- an end with its routes, each with a path that fits a message: so is each `Path`
 abbrev pub EndsAreLines : Type 0
 EndsAreLines =
     (e : End) → All (λ (route : Destination × PathValue). IsFit route.1) e.routes.entries
-    → All IsLine (end_lines e)
+    → All IsPutLine (end_lines e)

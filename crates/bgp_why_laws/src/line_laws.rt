@@ -1,4 +1,4 @@
-//! Laws of lines: each is one whose object determines its text.
+//! Laws of lines: each is one whose object determines its text, and whose texts are visible.
 
 ghost use Rattle.bgp_why_laws.specs.Lines.{DataAreLines, EndsAreLines, ItemsAreLines};
 ghost use Rattle.bgp_why_laws.specs.Lines.{MessagesAreLines, NotesAreLines, OthersAreLines};
