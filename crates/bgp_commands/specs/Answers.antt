@@ -48,16 +48,16 @@ use Rattle.bgp_list.specs.declared.capture.ListedCapture.{ListedCapture}
 use Rattle.bgp_list.specs.declared.form.ListForm.{ListForm}
 use Rattle.bgp_list.specs.declared.form.ListForm.TheVariants.{Json, Text}
 use Rattle.bgp_list.specs.declared.listed.ListedRecording.{ListedRecording}
-use Rattle.bgp_check_text.specs.declared.settings.Settings.{Settings}
-use Rattle.bgp_check_text.specs.declared.settings.Settings.TheVariants.{Always, Never}
-use Rattle.bgp_check_tool.specs.Checking.{ChecksRecording}
-use Rattle.bgp_check_tool.specs.Printed as recordings
-use Rattle.bgp_check_tool.specs.declared.checking.CheckedRecording.{CheckedRecording}
-use Rattle.bgp_check_tool.specs.declared.options.CheckOptions.{CheckOptions}
-use Rattle.bgp_check_capture_tool.specs.Checking.{ChecksCapture}
-use Rattle.bgp_check_capture_tool.specs.Printed as captures
-use Rattle.bgp_check_capture_tool.specs.declared.checking.CheckedCapture.{CheckedCapture}
-use Rattle.bgp_check_capture_tool.specs.declared.options.CaptureOptions.{CaptureOptions}
+use Rattle.bgp_report.specs.Options.{Settings}
+use Rattle.bgp_report.specs.Options.{Always, Never}
+use Rattle.bgp_report.specs.Recordings.{ChecksRecording}
+use Rattle.bgp_report.specs.Recordings as recordings
+use Rattle.bgp_report.specs.Recordings.{CheckedRecording}
+use Rattle.bgp_report.specs.Recordings.{CheckOptions}
+use Rattle.bgp_report.specs.Captures.{ChecksCapture}
+use Rattle.bgp_report.specs.Captures as captures
+use Rattle.bgp_report.specs.Captures.{CheckedCapture}
+use Rattle.bgp_report.specs.Captures.{CaptureOptions}
 use Rattle.bgp_report.specs.Report.{Reports, TakesText, never_fails, recording_options}
 use Rattle.bgp_report.specs.Report.{capture_options as report_options}
 use Rattle.bgp_recording_tool.specs.Files.{DecodesFile, IsPeeked, JudgesFile, is_recording}

@@ -25,8 +25,8 @@ use Rattle.bgp_import.specs.declared.refusal.Refusal.{Refusal}
 use Rattle.bgp_list.specs.declared.capture.ListedCapture.{ListedCapture as CaptureList}
 use Rattle.bgp_list.specs.declared.listed.ListedRecording.{ListedRecording as RecordingList}
 use Rattle.bgp_list.specs.declared.listed.NothingListed.{NothingListed as NoList}
-use Rattle.bgp_check_tool.specs.declared.checking.CheckedRecording.{CheckedRecording as RecordingCheck}
-use Rattle.bgp_check_capture_tool.specs.declared.checking.CheckedCapture.{CheckedCapture as CaptureCheck}
+use Rattle.bgp_report.specs.Recordings.{CheckedRecording as RecordingCheck}
+use Rattle.bgp_report.specs.Captures.{CheckedCapture as CaptureCheck}
 use Rattle.bgp_open.specs.declared.route_offer.RouteOffer.{RouteOffer}
 use Rattle.bgp_recording_tool.specs.Told.{refused_status}
 use Rattle.bgp_recording_tool.specs.declared.files.FileOutcome.{FileOutcome}

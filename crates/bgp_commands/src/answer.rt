@@ -8,8 +8,7 @@ ghost use Rattle.bgp_commands.specs.Sentences.{import_status, sentences_of, stat
 use crate::ends::Ends;
 use crate::saying;
 use crate::voice::Voice;
-use bgp_check_capture_tool::CheckedCapture;
-use bgp_check_tool::CheckedRecording;
+use bgp_report::{CheckedCapture, CheckedRecording};
 use bgp_import::{Imported, Notes, Stopped};
 use bgp_list::{ListedCapture, ListedRecording};
 use bgp_recording_tool::FileOutcome;

@@ -7,11 +7,10 @@ ghost use Rattle.bgp_commands.specs.Answers as specs;
 
 use crate::answer::Answer;
 use crate::ends::Ends;
-use bgp_check_capture_tool::{CaptureOptions, CheckedCapture, check_capture};
-use bgp_check_text::Printing;
-use bgp_check_tool::{CheckOptions, CheckedRecording, Settings, check_recording};
 use bgp_judge::Tracker;
 use bgp_recording_tool::Peeked;
+use bgp_report::{CaptureOptions, CheckedCapture, Printing, check_capture};
+use bgp_report::{CheckOptions, CheckedRecording, Settings, check_recording};
 use bgp_tool::WithFront;
 use bgp_verdict_lines::VerdictForm;
 use bgp_words::{CheckForm, Checking};

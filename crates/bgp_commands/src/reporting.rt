@@ -7,11 +7,10 @@ ghost use Rattle.bgp_commands.specs.Answers.{ChecksIn, ReportsFile, ReportsPacke
 use crate::answer::Answer;
 use crate::checking::{capture_options, check};
 use crate::ends::Ends;
-use bgp_check_capture_tool::{CaptureOptions, CheckedCapture};
-use bgp_check_tool::{CheckOptions, CheckedRecording};
 use bgp_judge::Tracker;
 use bgp_recording_tool::Peeked;
-use bgp_report::{report_capture, report_recording};
+use bgp_report::{CaptureOptions, CheckedCapture, report_capture};
+use bgp_report::{CheckOptions, CheckedRecording, report_recording};
 use bgp_tool::WithFront;
 use bgp_words::CheckForm;
 use mrt::{FromRead, FromWrite, Sink};

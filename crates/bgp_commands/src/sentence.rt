@@ -34,9 +34,9 @@ pub enum Sentence<'a> {
     /// Packets are wrapped in something that isn't read.
     NotLookedInto(NotLookedInto),
     /// No end in a pcap file is judged.
-    NoEndOfRecording(bgp_check_tool::NothingJudged),
+    NoEndOfRecording(bgp_report::NoRecordingJudged),
     /// No end in an MRT file is judged.
-    NoEndOfCapture(bgp_check_capture_tool::NothingJudged),
+    NoEndOfCapture(bgp_report::NoCaptureJudged),
     /// `import` names one file twice.
     OneName {
         /// The name.

@@ -1,1 +1,4 @@
+pub mod Options
+pub mod Recordings
+pub mod Captures
 pub mod Report
