@@ -8,3 +8,5 @@ pub mod OneMessage
 pub mod CaptureMessages
 pub mod Joined
 pub mod ListTexts
+pub mod Dotted
+pub mod InPlace

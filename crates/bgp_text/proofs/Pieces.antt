@@ -56,6 +56,18 @@ nothing_yet sink nothing old held = record {
   kept = nothing_kept sink.failures old.sink.now held old.has_failed;
 }
 
+-- a text is held, behind what was held
+pub more_held : {W : Type 0} (sink : sinks.Ghosts W) → ((a : W) → sink.takes a a []) → (old : Outlet W sink) (held text : List ℕ)
+    → Passes old old held text (held ++ text)
+more_held sink nothing old held text = record {
+  same_sink = refl;
+  taken = [];
+  left = held ++ text;
+  took = nothing old.sink.now;
+  whole = refl;
+  kept = nothing_kept sink.failures old.sink.now (held ++ text) old.has_failed;
+}
+
 -- what a sink takes at once is what it takes piece by piece: its law
 pub record Joins {W : Type 0} (sink : sinks.Ghosts W) : Type 0 where
   pub joined : (a b c : W) (xs ys : List ℕ) → sink.takes a b xs → sink.takes b c ys → sink.takes a c (xs ++ ys)

@@ -1,3 +1,4 @@
+pub mod Room
 pub mod Outlet
 pub mod Lines
 pub mod Message

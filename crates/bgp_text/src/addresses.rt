@@ -136,7 +136,12 @@ pub fn put_address<W: Sink>(lines: &mut Lines<'_, W>, address: Address)
 pub fn put_prefix<W: Sink>(lines: &mut Lines<'_, W>, prefix: Prefix)
     ensures { Writes lines.old lines.new (prefix_text prefix) }
 {
-    put_address(lines, prefix.address());
-    lines.put(b"/");
-    lines.put_decimal(prefix.length());
+    match prefix.address() {
+        Address::V4(number) => lines.put_ipv4_prefix(number, prefix.length()),
+        Address::V6(number) => {
+            put_ipv6(lines, number);
+            lines.put(b"/");
+            lines.put_decimal(prefix.length());
+        }
+    }
 }

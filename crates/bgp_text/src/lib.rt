@@ -16,8 +16,10 @@ mod lines;
 mod messages;
 mod outlet;
 mod records;
+mod room;
 mod routes;
 mod updates;
+mod writing;
 
 pub use addresses::{put_address, put_prefix};
 pub use lines::Lines;

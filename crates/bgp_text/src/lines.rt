@@ -2,18 +2,14 @@
 
 ghost use Rattle.std.specs.Prelude.{◌≡◌, ◌<◌, ◌≤◌, ◌+◌, ◌++◌, [], length, OnOk, OnErr, IsFalse};
 ghost use Rattle.std.specs.Prelude.{IsTrue};
-ghost use Rattle.arrayvec.specs.ArrayVec.{array_vec_len};
 
 use crate::outlet::Outlet;
-use arrayvec::ArrayVec;
+use crate::room::Room;
 use itoa::{Buffer, Integer};
 use mrt::{Failed, Sink};
 
-/// How many octets are held at the most.
-const ROOM: usize = 1 << 16;
-
 /// How many octets are made hexadecimal at once.
-const AT_ONCE: usize = 64;
+const AT_ONCE: usize = 256;
 
 /// A text that is written to a sink. Pieces are held until the room is full, or until they are
 /// handed over.
@@ -23,7 +19,7 @@ const AT_ONCE: usize = 64;
 #[derive(Drop)]
 pub struct Lines<'a, W: Sink> {
     outlet: Outlet<'a, W>,
-    held: ArrayVec<u8, ROOM>,
+    held: Room,
 }
 
 impl<'a, W: Sink> Lines<'a, W> {
@@ -39,7 +35,7 @@ impl<'a, W: Sink> Lines<'a, W> {
     {
         Lines {
             outlet: Outlet::new(sink),
-            held: ArrayVec::new(),
+            held: Room::new(),
         }
     }
 
@@ -62,9 +58,10 @@ impl<'a, W: Sink> Lines<'a, W> {
     pub fn put(&mut self, piece: &[u8])
         ensures { Writes self.old self.new piece.now }
     {
-        match self.held.try_extend_from_slice(piece) {
-            Ok(()) => {}
-            Err(_) => self.spill(piece),
+        if piece.len() <= self.held.left() {
+            self.held.push(piece);
+        } else {
+            self.spill(piece);
         }
     }
 
@@ -79,12 +76,26 @@ impl<'a, W: Sink> Lines<'a, W> {
     }
 
     // Hands over what is held.
+    #[cold]
+    #[inline(never)]
     fn pass_on(&mut self)
         ensures writes { Writes self.old self.new [] }
         ensures none { self.new.held.items ≡ [] }
     {
         self.outlet.give(self.held.as_slice());
         self.held.clear();
+    }
+
+    // Hands over what is held if there isn't room for so many octets more.
+    #[inline(always)]
+    fn make_room(&mut self, count: usize)
+        requires { count ≤ 65536 }
+        ensures writes { Writes self.old self.new [] }
+        ensures room { length self.new.held.items + count ≤ 65536 }
+    {
+        if self.held.left() < count {
+            self.pass_on();
+        }
     }
 
     /// Hands over to the sink what is held, and tells whether it has taken all of the text.
@@ -104,6 +115,8 @@ impl<'a, W: Sink> Lines<'a, W> {
 }
 
 impl<W: Sink> Lines<'_, W> {
+    ghost use Rattle.std.specs.Prelude.{codes};
+    ghost use Rattle.std.specs.Fmt.{decimal};
     ghost use Rattle.bgp_text.specs.Lines.{Writes};
     ghost use Rattle.hex.specs.Hex.{encode_lower};
     ghost use Rattle.bgp_prefix.specs.Text.{address_text};
@@ -122,14 +135,26 @@ impl<W: Sink> Lines<'_, W> {
     pub fn put_ipv4(&mut self, address: u32)
         ensures { Writes self.old self.new (address_text (V4 address)) }
     {
-        let [first, second, third, fourth] = address.to_be_bytes();
-        self.put_decimal(first);
-        self.put(b".");
-        self.put_decimal(second);
-        self.put(b".");
-        self.put_decimal(third);
-        self.put(b".");
-        self.put_decimal(fourth);
+        self.make_room(16);
+        self.held.push_ipv4(address);
+    }
+
+    /// Appends an IPv4 address in dotted decimal, `/` and a count of bits.
+    pub(crate) fn put_ipv4_prefix(&mut self, address: u32, bits: u8)
+        ensures { Writes self.old self.new
+            (address_text (V4 address) ++ (codes "/" ++ decimal bits)) }
+    {
+        self.make_room(20);
+        self.held.push_ipv4_prefix(address, bits);
+    }
+
+    /// Appends two octets in decimal, with a dot between them and a colon behind them.
+    pub(crate) fn put_head(&mut self, first: u8, second: u8)
+        ensures { Writes self.old self.new
+            (decimal first ++ (codes "." ++ (decimal second ++ codes ":"))) }
+    {
+        self.make_room(8);
+        self.held.push_head(first, second);
     }
 
     /// Appends octets in hexadecimal, or a dash for none.
@@ -150,12 +175,8 @@ impl<W: Sink> Lines<'_, W> {
         let mut rest = octets;
         while !rest.is_empty() {
             let (piece, behind) = rest.split_at(rest.len().min(AT_ONCE));
-            let mut digits = [0; 2 * AT_ONCE];
-            let digits = &mut digits[..2 * piece.len()];
-            match hex::encode_to_slice(piece, digits) {
-                Ok(()) => self.put(digits),
-                Err(_) => unreachable!(),
-            }
+            self.make_room(2 * AT_ONCE);
+            self.held.push_hex(piece);
             rest = behind;
         }
     }

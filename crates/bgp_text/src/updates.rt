@@ -49,10 +49,7 @@ fn put_destinations<W: Sink>(lines: &mut Lines<'_, W>, mut destinations: Destina
 fn put_attribute<W: Sink>(lines: &mut Lines<'_, W>, attr: Attr<'_>)
     ensures { Writes lines.old lines.new (attribute_text (attribute_of attr.entry)) }
 {
-    lines.put_decimal(attr.flags);
-    lines.put(b".");
-    lines.put_decimal(attr.kind);
-    lines.put(b":");
+    lines.put_head(attr.flags, attr.kind);
     lines.put_hex(attr.value);
 }
 

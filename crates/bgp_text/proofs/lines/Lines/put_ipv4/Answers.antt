@@ -1,10 +1,11 @@
-use Rattle.bgp_prefix.specs.Text.{address_text, dotted_text}
-use Rattle.bgp_text.proofs.Pieces.{Joins, and_then}
+use Rattle.bgp_prefix.specs.Text.{address_text}
+use Rattle.bgp_prefix.specs.declared.address.Address.TheVariants.{V4}
+use Rattle.bgp_text.proofs.Pieces.{Joins, and_then, more_held}
 use Rattle.bgp_text.proofs.lines.Lines.put_ipv4.Goals as goal
 
 pub returns : goal.returns
-unfolding address_text dotted_text
 returns g c =
     let law : Joins g.W.Sink = record { joined = g.met.W.Sink.joined } in
-    let text = and_then law c.put_decimal.ensures (and_then law c.put.ensures (and_then law c.put_decimal-2.ensures (and_then law c.put-2.ensures (and_then law c.put_decimal-3.ensures (and_then law c.put-3.ensures c.put_decimal-4.ensures))))) in
-    rw (c.to_be_bytes.ensures) at text
+    let room = c.make_room.new.self in
+    let text = (address_text (V4 c.args.address)) in
+    rw (c.push_ipv4.ensures) (and_then law c.make_room.ensures.writes (more_held g.W.Sink g.met.W.Sink.nothing room.outlet room.held.items text))
