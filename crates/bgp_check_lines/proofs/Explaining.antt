@@ -5,7 +5,7 @@ use Rattle.json.specs.Json.{Json}
 use Rattle.mrt.specs.declared.sink.Sink as sinks
 use Rattle.bgp_text.specs.Lines.{Writes}
 use Rattle.bgp_text.specs.declared.lines.Lines.{Lines}
-use Rattle.bgp_explain.specs.KeptLines.{IsOfLines}
+use Rattle.bgp_check_text.specs.LinesKept.{IsOfLines}
 use Rattle.bgp_json_verdicts.specs.Lines.{LineValue, line_text}
 use Rattle.bgp_json_verdicts.specs.Objects.{counts_behind, objects_from}
 use Rattle.bgp_json_verdicts.specs.Telling.{AreValues, PutsObjects, lines_of}

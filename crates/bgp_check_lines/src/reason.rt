@@ -2,7 +2,7 @@
 
 ghost use Rattle.std.specs.Prelude.{◌<◌, ℕ, IfOk, List, OnErr, OnOk};
 ghost use Rattle.bgp_check_text.specs.Reason.{lines_text};
-ghost use Rattle.bgp_explain.specs.KeptLines.{IsOfLines};
+ghost use Rattle.bgp_check_text.specs.LinesKept.{IsOfLines};
 ghost use Rattle.bgp_check_lines.specs.Lines.{PutsLines};
 ghost use Rattle.bgp_check_lines.specs.Reason.{AreToldAs};
 ghost use Rattle.bgp_check_lines.specs.Teller.{TellsText};

@@ -19,3 +19,4 @@ pub mod Reason
 pub mod SentDeed
 pub mod Unshown
 pub mod ItemTexts
+pub mod LinesKept

@@ -25,3 +25,4 @@ pub mod Capture
 pub mod Records
 pub mod Written
 pub mod Opened
+pub mod LinesPut

@@ -57,3 +57,5 @@ pub use report::Report;
 pub use skipped::Skipped;
 pub use tally::Tally;
 pub use texts::{put_explained, put_reason};
+// Who puts a reason needs no other crate for that.
+pub use bgp_verdict_lines::VerdictLines;

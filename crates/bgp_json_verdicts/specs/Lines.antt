@@ -25,7 +25,7 @@ use Rattle.bgp_import.specs.Refusals.{refusal_line}
 use Rattle.bgp_import.specs.declared.refusal.Refusal.{Refusal}
 use Rattle.bgp_tool.specs.VerdictText.{families_text, route_line, state_text}
 use Rattle.bgp_tool.specs.VerdictText.{unfinished_line}
-use Rattle.bgp_why_parts.specs.Codes.{full_code_text}
+use Rattle.bgp_why.specs.Codes.{full_code_text}
 use Rattle.bgp_why.specs.Items.{all_items, first_word, item_text, those_possible}
 use Rattle.bgp_why.specs.NoteLines.{note_text}
 use Rattle.bgp_why.specs.NotWhole.{unfit_line}

@@ -2,8 +2,8 @@
 -- and 6).
 use Rattle.std.specs.Prelude.{◌≡◌, ◌<◌, ◌↔◌, ℕ, List, Option, None, Some, IsNone, IsSomeAnd}
 use Rattle.bgp_open.specs.Notification.{IsNotification}
-use Rattle.bgp_machine.specs.Want.{Tells}
 use Rattle.bgp_reason.specs.declared.kinds.Possible.{Possible}
+use Rattle.bgp_reason.specs.Data.{Tells}
 use Rattle.bgp_reason.specs.Possible.{IsNotified}
 use Rattle.bgp_parts.specs.declared.notification.NotificationPart.{NotificationPart}
 use Rattle.bgp_parts.specs.declared.notification.NotificationPart.TheVariants.{Subcode, Data}

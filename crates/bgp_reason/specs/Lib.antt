@@ -5,3 +5,4 @@ pub mod Hearable
 pub mod Possible
 pub mod Asked
 pub mod Reasons
+pub mod Data

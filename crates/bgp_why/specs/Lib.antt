@@ -20,3 +20,4 @@ pub mod Applying
 pub mod NotWhole
 pub mod State
 pub mod Lines
+pub mod Codes
