@@ -8,10 +8,10 @@ ghost use Rattle.bgp_commands.specs.Sentences.{import_status, sentences_of, stat
 use crate::ends::Ends;
 use crate::saying;
 use crate::voice::Voice;
-use bgp_report::{CheckedCapture, CheckedRecording};
 use bgp_import::{Imported, Notes, Stopped};
 use bgp_list::{ListedCapture, ListedRecording};
 use bgp_recording_tool::FileOutcome;
+use bgp_report::{CheckedCapture, CheckedRecording};
 use bgp_tool::{Outcome, Status};
 use std::alloc::{Allocator, Global};
 

@@ -9,8 +9,10 @@ use crate::answer::Answer;
 use crate::ends::Ends;
 use bgp_judge::Tracker;
 use bgp_recording_tool::Peeked;
-use bgp_report::{CaptureOptions, CheckedCapture, Printing, check_capture};
-use bgp_report::{CheckOptions, CheckedRecording, Settings, check_recording};
+use bgp_report::{
+    CaptureOptions, CheckOptions, CheckedCapture, CheckedRecording, Printing, Settings,
+    check_capture, check_recording,
+};
 use bgp_tool::WithFront;
 use bgp_verdict_lines::VerdictForm;
 use bgp_words::{CheckForm, Checking};

@@ -9,8 +9,10 @@ use crate::checking::{capture_options, check};
 use crate::ends::Ends;
 use bgp_judge::Tracker;
 use bgp_recording_tool::Peeked;
-use bgp_report::{CaptureOptions, CheckedCapture, report_capture};
-use bgp_report::{CheckOptions, CheckedRecording, report_recording};
+use bgp_report::{
+    CaptureOptions, CheckOptions, CheckedCapture, CheckedRecording, report_capture,
+    report_recording,
+};
 use bgp_tool::WithFront;
 use bgp_words::CheckForm;
 use mrt::{FromRead, FromWrite, Sink};

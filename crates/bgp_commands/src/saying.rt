@@ -21,10 +21,10 @@ use crate::sentences::{
     unmade_sentence, unwritten_sentence, without_sentence, wrapped_sentence,
 };
 use crate::voice::{Voice, say_each, say_remarks, say_some};
-use bgp_report::{CheckedCapture, CheckedRecording};
 use bgp_import::{self as import, Imported, NotLookedInto, Notes, Refusal, Stopped, Wrapped};
 use bgp_list::{ListedCapture, ListedRecording, NothingListed};
 use bgp_recording_tool::FileOutcome;
+use bgp_report::{CheckedCapture, CheckedRecording};
 use bgp_tool::Outcome;
 use mrt::CaptureFault;
 use std::alloc::Allocator;

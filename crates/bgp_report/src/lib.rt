@@ -22,11 +22,12 @@ mod recording;
 
 // What `check` prints as text and in JSON is passed on, so that who prints a file in any form needs
 // this crate alone.
-pub use bgp_check_capture_tool::NothingJudged as NoCaptureJudged;
-pub use bgp_check_capture_tool::{CaptureOptions, CheckedCapture, check_capture};
+pub use bgp_check_capture_tool::{
+    CaptureOptions, CheckedCapture, NothingJudged as NoCaptureJudged, check_capture,
+};
 pub use bgp_check_text::Printing;
-pub use bgp_check_tool::NothingJudged as NoRecordingJudged;
-pub use bgp_check_tool::{CheckOptions, CheckedRecording, Settings, check_recording};
-
+pub use bgp_check_tool::{
+    CheckOptions, CheckedRecording, NothingJudged as NoRecordingJudged, Settings, check_recording,
+};
 pub use capture::report_capture;
 pub use recording::report_recording;
