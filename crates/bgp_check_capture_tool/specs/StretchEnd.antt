@@ -14,7 +14,7 @@ use Rattle.bgp_check_text.specs.Reason.{IsReasonTo, deed_text, lines_text}
 use Rattle.bgp_check_text.specs.declared.end.EndName.{EndName}
 use Rattle.bgp_check_text.specs.declared.reason.Reason.{Reason}
 use Rattle.bgp_check_text.specs.Reached.{IsReached, ReachedValue, reached_value}
-use Rattle.bgp_explain.specs.Places.{numbered_places}
+use Rattle.bgp_check_text.specs.Places.{numbered_places}
 use Rattle.bgp_check_text.specs.declared.options.JudgeOptions.{JudgeOptions}
 use Rattle.bgp_check_capture_tool.specs.Judging.{AreOptionsOf}
 use Rattle.bgp_check_capture_tool.specs.Naming.{IsNameOf, endpoint_of}

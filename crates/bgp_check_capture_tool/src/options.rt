@@ -1,7 +1,7 @@
 //! How a capture is checked.
 
+use bgp_check_lines::VerdictForm;
 use bgp_check_text::{Printing, Settings};
-use bgp_verdict_lines::VerdictForm;
 
 /// How a capture is checked.
 #[derive(Clone, Copy, Debug)]

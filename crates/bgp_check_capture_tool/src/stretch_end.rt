@@ -19,8 +19,9 @@ use crate::places::{numbers_of, place_in};
 use crate::telling::Telling;
 use crate::told_end::{ToldEnd, told_end};
 use bgp_check::{Answer, StretchTold, check_stretch};
-use bgp_check_text::{EndName, JudgeOptions, Reached, Reason, is_no_yes, reached_by, reason_of};
-use bgp_explain::Places;
+use bgp_check_text::{
+    EndName, JudgeOptions, Places, Reached, Reason, is_no_yes, reached_by, reason_of,
+};
 use bgp_judge::Tracker;
 use bgp_list::first_second;
 use bgp_prefix::Session;

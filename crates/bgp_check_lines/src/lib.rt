@@ -23,6 +23,8 @@ mod teller;
 mod totals;
 mod verdicts;
 
+// The form is that of the lines of a verdict.
+pub use bgp_verdict_lines::VerdictForm;
 pub use check_lines::CheckLines;
 pub use listed::{
     put_connection, put_fault, put_refused, put_refused_between, put_refused_connection,

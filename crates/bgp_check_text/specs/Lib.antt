@@ -20,3 +20,4 @@ pub mod SentDeed
 pub mod Unshown
 pub mod ItemTexts
 pub mod LinesKept
+pub mod Places

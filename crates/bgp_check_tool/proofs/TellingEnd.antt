@@ -19,7 +19,7 @@ use Rattle.bgp_check.specs.Stretch.{IsStretch}
 use Rattle.bgp_check.specs.declared.peer_as.PeerAs.{PeerAs}
 use Rattle.bgp_check_text.specs.Reached.{IsReached, ReachedValue}
 use Rattle.bgp_check_text.specs.Reason.{IsReasonTo}
-use Rattle.bgp_explain.specs.Places.{shown_places}
+use Rattle.bgp_check_text.specs.Places.{shown_places}
 use Rattle.bgp_import.specs.Captures.{put_off}
 use Rattle.bgp_check_text.specs.declared.options.Asked.{Asked}
 use Rattle.bgp_check_text.specs.declared.options.JudgeOptions.{JudgeOptions}

@@ -17,7 +17,7 @@ use Rattle.bgp_check.specs.Answered.{AnswerValue, IsAnswerTo, JudgedAs, Unjudged
 use Rattle.bgp_check.specs.declared.peer_as.PeerAs.{PeerAs}
 use Rattle.bgp_check_text.specs.AsNumber.{HasAsNumber}
 use Rattle.bgp_check_text.specs.Reason.{IsReasonTo, deed_text, lines_text}
-use Rattle.bgp_explain.specs.Places.{shown_places}
+use Rattle.bgp_check_text.specs.Places.{shown_places}
 use Rattle.bgp_check_text.specs.Reached.{IsReached, ReachedValue, reached_value}
 use Rattle.bgp_check_tool.specs.declared.ending.Told.{Told}
 use Rattle.bgp_check_text.specs.declared.options.Asked.{Asked}

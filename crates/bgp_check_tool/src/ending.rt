@@ -7,7 +7,7 @@ ghost use Rattle.bgp_check.specs.WatchedEnd.{IsWatchedFor};
 ghost use Rattle.bgp_judge.specs.Verdict.{Unfinished};
 ghost use Rattle.bgp_check_text.specs.AsNumber.{HasAsNumber};
 ghost use Rattle.bgp_check_text.specs.Reason.{IsReasonTo, deed_text, lines_text};
-ghost use Rattle.bgp_explain.specs.Places.{shown_places};
+ghost use Rattle.bgp_check_text.specs.Places.{shown_places};
 ghost use Rattle.bgp_import.specs.Captures.{put_off};
 ghost use Rattle.bgp_recording.specs.Captured.{records_of};
 ghost use Rattle.bgp_recording.specs.Gathered.{IsClocked, IsCovered};
@@ -33,8 +33,9 @@ use crate::options::CheckOptions;
 use crate::orders::{NoOrder, Under};
 use crate::place::{last_place, place_at, second_at, sent_place};
 use bgp_check::{Answer, Judged, watch_end};
-use bgp_check_text::{Asked, JudgeOptions, Reached, Reason, reached_by, reason_of, sent_as_number};
-use bgp_explain::Places;
+use bgp_check_text::{
+    Asked, JudgeOptions, Places, Reached, Reason, reached_by, reason_of, sent_as_number,
+};
 use bgp_import::notes_on;
 use bgp_judge::{Tracker, Verdict};
 use bgp_prefix::{Seconds, Session};

@@ -1,7 +1,7 @@
 //! How a recording is checked.
 
+use bgp_check_lines::VerdictForm;
 use bgp_check_text::{Printing, Settings};
-use bgp_verdict_lines::VerdictForm;
 
 /// How a recording is checked.
 #[derive(Clone, Copy, Debug)]

@@ -4,7 +4,7 @@ use Rattle.mrt.specs.Reader.{shown_of}
 use Rattle.bgp_recording.specs.Captured.{records_of}
 use Rattle.bgp_recording.specs.declared.entry.Entry.{Entry}
 use Rattle.bgp_judge.specs.Verdict.{Unfinished}
-use Rattle.bgp_explain.specs.Places.{shown_places}
+use Rattle.bgp_check_text.specs.Places.{shown_places}
 use Rattle.bgp_check.specs.Answered.{AnswerValue, IsAnswerTo, JudgedAs, answer_value}
 use Rattle.bgp_check.specs.WatchedEnd.{IsWatchedFor}
 use Rattle.bgp_watch.specs.Front.{front_value}
