@@ -7,3 +7,9 @@ pub mod Yes
 pub mod Lines
 pub mod Numbers
 pub mod Printed
+mod Commands
+mod VisibleMembers
+mod VisibleLines
+mod Deeds
+mod Explained
+mod Routes

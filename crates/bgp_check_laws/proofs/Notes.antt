@@ -32,6 +32,7 @@ use Rattle.bgp_list_laws.proofs.Endpoints.{endpoint_made}
 use Rattle.bgp_check_laws.proofs.Members.{flag_made, known_made, moment_back, place_back}
 use Rattle.bgp_check_laws.proofs.Reading.{Another, CutShort, Ended, Every, InMade, Incomplete, Late, NotRead, Nothing, One, OpenAtEnd, Passed, Repeat, Summary, own_text, text_in}
 use Rattle.bgp_check_laws.proofs.Answers.{keyed}
+use Rattle.bgp_check_laws.proofs.Commands.{command_visible}
 
 -- ---- if there is something to tell
 
@@ -134,11 +135,11 @@ module _ (judged : ℕ) (rest : List Json) where
       ∙ ap (λ (t : List ℕ). choices ++ t) (append_assoc refresh asked last)))
       )
 
-  pub repeat_reads : (options : JudgeOptions) → IsUtf8 (command_text options)
+  pub repeat_reads : (options : JudgeOptions)
       → own_text (judged_json (codes "repeat") judged ((codes "command", text_json (command_text options)) ∷ [])) rest ≡ judge_line options
-  repeat_reads options utf8 =
+  repeat_reads options =
       keyed Repeat _ _ rest refl (λ j js. refl) (having (codes "judged") (number_of judged) (having (codes "command") (text_json (command_text options)) nothing))
-      ∙ ap (λ (t : List ℕ). codes "  repeat: " ++ (t ++ codes " FILE\n")) (utf8_lossy-IsUtf8 (command_text options) utf8)
+      ∙ ap (λ (t : List ℕ). codes "  repeat: " ++ (t ++ codes " FILE\n")) (utf8_lossy-IsUtf8 (command_text options) (command_visible options).utf8)
       ∙ command_back options
 
 -- ---- the whole file

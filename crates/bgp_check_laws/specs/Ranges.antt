@@ -1,12 +1,13 @@
 -- Lines of `check` as they are put: their numbers have 64 bits, their texts are UTF-8, and each
 -- segment of a path has numbers.
 use Rattle.std.specs.Prelude.{◌+◌, ⊤, ℕ, List, Option, None, Some, All, IsUtf8, length}
+use Rattle.mrt_sessions.specs.File.{Located, NamesSession}
+use Rattle.bgp_wire.specs.Octets.{AreOctets}
 use Rattle.bgp_path.specs.Path.{PathValue}
 use Rattle.bgp_update.specs.declared.destination.Destination.{Destination}
 use Rattle.bgp_machine.specs.Run.{End}
 use Rattle.bgp_check.specs.declared.peer_as.PeerAs.{PeerAs}
 use Rattle.bgp_check.specs.declared.peer_as.PeerAs.TheVariants as peers
-use Rattle.bgp_check_text.specs.JudgeLine.{command_text}
 use Rattle.bgp_check_text.specs.Reached.{ReachedValue}
 use Rattle.bgp_check_text.specs.declared.end.EndName.{EndName}
 use Rattle.bgp_check_text.specs.declared.tally.Tally.{Tally}
@@ -57,6 +58,10 @@ pub record IsReached (reached : ReachedValue) : Type 0 where
   pub counts : All Fits reached.counts
   pub before : AreEndings reached.before
 
+-- a record of a capture's session
+abbrev pub IsRecord : Located → Type 0
+IsRecord l = AreOctets l.octets × NamesSession l.octets
+
 -- ---- lines
 
 -- a line of a reason, and no other
@@ -92,7 +97,7 @@ IsLine (IsLate within is_yes) = Fits within
 IsLine (IsEnded first number micro by ended) =
     Fits number × Fits ended.second × FitsIfAny by.port × IsHow ended.how
 IsLine IsOpen = ⊤
-IsLine (Repeats options) = IsUtf8 (command_text options)
+IsLine (Repeats options) = ⊤
 IsLine (Lists line) = IsListed line
 IsLine (HasSession addresses named) = AreRecords named
 IsLine (RefusesFile refusal) = IsRefusal refusal
