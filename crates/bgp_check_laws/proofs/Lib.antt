@@ -13,3 +13,4 @@ mod VisibleLines
 mod Deeds
 mod Explained
 mod Routes
+mod Octets

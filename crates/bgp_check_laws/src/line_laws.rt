@@ -64,8 +64,8 @@ pub fn each_verdict_is_a_line(place: Place, name: EndName, deed: &[u8])
     name_is(name);
 }
 
-/// States that what a no says was done is visible: of the impossible record, and of a message that
-/// no order explains.
+/// States that what a no says was done is visible: of the impossible record, where messages are
+/// octets, and of a message that no order explains.
 pub fn each_deed_is_visible()
     ensures records { DeedsAreVisible }
     ensures messages { SentDeedsAreVisible }
