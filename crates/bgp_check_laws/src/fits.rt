@@ -1,5 +1,6 @@
-//! What the types of a line's values say: numbers have 64 bits, octets are octets, and no segment of
-//! a path is empty. The functions have nothing to do: their contracts hand it on.
+//! What the types of a line's values say: numbers have 64 bits, octets are octets, and no segment
+//! of a path is empty. The functions have nothing to do: their contracts hand this on, each for a
+//! value.
 
 ghost use Rattle.std.specs.Prelude.{All, map};
 ghost use Rattle.mrt_sessions.specs.Located.{located};

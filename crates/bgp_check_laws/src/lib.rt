@@ -1,8 +1,8 @@
 //! Laws of the lines that [`bgp_check_lines`] puts as text or in JSON: what is printed in JSON
 //! determines the text, and has no control character but line feeds at the ends of its lines.
 //!
-//! So nothing that `check` prints is lost with `--json`, and a terminal that prints it obeys nothing
-//! that a peer sent. The counts of verdicts that stand in an object may differ.
+//! So nothing that `check` prints is lost with `--json`, and a terminal that prints it obeys
+//! nothing that a peer sent. The counts of verdicts that stand in an object may differ.
 #![tactic(auto)]
 
 mod fits;

@@ -1,5 +1,5 @@
 //! Laws of the lines that `check` puts: the objects of each determine its text, and its texts are
-//! visible. What a line is made of has the types that it has where it is put.
+//! visible (`IsPutLine`). What a line is made of has the types that it has where it is put.
 
 ghost use Rattle.std.specs.Prelude.{◌+◌, map};
 ghost use Rattle.mrt_sessions.specs.Located.{located};
@@ -38,7 +38,8 @@ use segments::Addresses as Pair;
 use std::alloc::Allocator;
 use streams::Opening;
 
-/// States this of a yes with its possible ends, and with their routes if they are asked for.
+/// States that a yes is a line whose objects determine its text, with its possible ends, and with
+/// their routes if they are asked for.
 pub fn each_yes_is_lines<A: Allocator>(
     routes: bool,
     name: EndName,
@@ -55,7 +56,8 @@ pub fn each_yes_is_lines<A: Allocator>(
     endings_are(ends);
 }
 
-/// States this of a no, if what was done is visible; and of what is unfinished.
+/// States that a no is a line whose object determines its text, if what was done is visible; and so
+/// is what is unfinished.
 pub fn each_verdict_is_a_line(place: Place, name: EndName, deed: &[u8])
     ensures no { IsVisible deed.now → IsPutLine (IsNo place name deed.now) }
     ensures unfinished { IsPutLine (IsUnfinished place name) }
@@ -71,7 +73,8 @@ pub fn each_deed_is_visible()
     ensures messages { SentDeedsAreVisible }
 {}
 
-/// States this of an end that isn't judged; of one without an AS number, if the reason is visible.
+/// States that an end that isn't judged is a line whose object determines its text; and so is one
+/// without an AS number, if the words on why are visible.
 pub fn each_unjudged_is_a_line(
     name: EndName,
     why: NotJudged,
@@ -86,20 +89,22 @@ pub fn each_unjudged_is_a_line(
     port_fits(end);
 }
 
-/// States this of a reason.
+/// States that the objects of a reason's lines determine their text, if the lines are such as
+/// `judge` puts, with numbers of 64 bits.
 pub fn each_reason_is_lines()
     ensures { ReasonsAreLines }
 {}
 
-/// States this of what the impossible record of the made order shows was done, if that is visible.
+/// States that what the impossible record of the made order shows was done is a line whose object
+/// determines its text, if it is visible.
 pub fn each_made_order_is_a_line(first: Seconds, deed: &[u8], place: Place)
     ensures { IsVisible deed.now → IsPutLine (InMadeOrder first deed.now place) }
 {
     place_fits(place);
 }
 
-/// States this of the notes on what isn't judged and on orders, and of the command that reproduces a
-/// verdict.
+/// States that each note on what isn't judged and on orders is a line whose object determines its
+/// text; and so is the command that reproduces a verdict.
 pub fn each_note_is_a_line(
     direction: Direction,
     count: usize,
@@ -119,7 +124,8 @@ pub fn each_note_is_a_line(
     ensures repeats { IsPutLine (Repeats options) }
 {}
 
-/// States this of how the session of a capture ended, and of one that is open.
+/// States that how the session of a capture ended is a line whose object determines its text; and
+/// so is that it is open.
 pub fn each_ending_is_a_line(
     first: Seconds,
     number: u64,
@@ -134,8 +140,9 @@ pub fn each_ending_is_a_line(
     how_is(ended.how);
 }
 
-/// States this of a connection, of one that is refused, of two addresses of whose connections none
-/// can be told, and of why a recording can't be read on.
+/// States that a connection is a line whose object determines its text; and so is one that is
+/// refused, two addresses of whose connections none can be told, and why a recording can't be read
+/// on.
 pub fn each_connection_is_a_line(
     session: Session,
     opening: Opening,
@@ -156,7 +163,8 @@ pub fn each_connection_is_a_line(
     refusal_is(refusal);
 }
 
-/// States this of a capture's session, and of why a capture can't be read on.
+/// States that a capture's session is a line whose object determines its text; and so is why a
+/// capture can't be read on.
 pub fn each_session_is_a_line(
     addresses: Addresses,
     records: &[NamedRecord<'_>],
@@ -168,7 +176,8 @@ pub fn each_session_is_a_line(
     records_are(records);
 }
 
-/// States this of what is said of a whole file: of the counts of verdicts, if their sum has 64 bits.
+/// States that what is said of a whole file is a line whose object determines its text: the counts
+/// of verdicts, if their sum has 64 bits.
 pub fn each_total_is_a_line(packet: u64, port: u16, tally: Tally)
     ensures cut_short { IsPutLine (IsCutShort packet) }
     ensures nothing { IsPutLine (NothingAt port) }

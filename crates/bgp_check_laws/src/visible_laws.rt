@@ -3,8 +3,8 @@
 ghost use Rattle.bgp_check_laws.specs.Visible.{LinesAreVisible, OutputsAreVisible};
 ghost use Rattle.bgp_check_laws.specs.Visible.{PrintedIsVisible};
 
-/// States that the lines of the objects of each kind of line are UTF-8 and have no control character
-/// but the line feed at their end: none of ASCII, no DEL, and none of U+0080 to U+009F.
+/// States that the lines of the objects of each kind of line are UTF-8 and have no control
+/// character but the line feed at their end: none of ASCII, no DEL, and none of U+0080 to U+009F.
 pub fn no_line_in_json_has_a_control_character()
     ensures { LinesAreVisible }
 {}
