@@ -23,13 +23,13 @@ use Rattle.bgp_recording.specs.declared.framing.Unshown.{Unshown}
 use Rattle.bgp_recording.specs.declared.message.Message.{Message}
 use Rattle.bgp_recording.specs.declared.pending.Moment.{Moment}
 use Rattle.bgp_recording.specs.Framed.{IsRest, AreFramed, EachAt, HasKind, octets_of}
-use Rattle.bgp_recording.specs.Gathered.{IsHeard, IsSaid, AreCame, AreMade, AreFrom}
-use Rattle.bgp_recording.specs.Givers.{giver, IsCame, IsMade, own_end}
+use Rattle.bgp_recording.specs.Gathered.{IsSaid, AreMade, AreFrom}
+use Rattle.bgp_recording.specs.Givers.{giver, IsMade, own_end}
 use Rattle.bgp_recording.specs.Once.{AreSame}
 use Rattle.bgp_recording.specs.Pieces.{Piece, Kept, PassedOver, octets_in, stream_of, passed_over, IsPiece, IsRefreshHeader, BeginsRefresh, IsShortOf, IsFaultyOf}
 use Rattle.bgp_recording.specs.Values.{MessageValue, message_value, values_of}
 use Rattle.bgp_recording.specs.Moments.{moment_in, moment_of}
-use Rattle.bgp_recording.proofs.Heard.{at_giver, came_each, each_at_weaker, made_each}
+use Rattle.bgp_recording.proofs.Heard.{at_giver, each_at_weaker, made_each}
 use Rattle.bgp_recording.proofs.Pieces.{frame_no_refresh, header_of_front, header_of_whole, piece_whole}
 
 -- ---- the type of a message
@@ -72,9 +72,6 @@ same_kind framing m n e h k =
     one_kind framing n.octets.now m.kind n.kind (subst (λ (o : List ℕ). IsKindOf framing o m.kind) e (kind_of framing m m.kind refl h)) (kind_of framing n n.kind refl k)
 
 -- ---- the packet of a message
-
-one_came : (runs : List Run) (place : ℕ) (a b : Moment) → IsCame runs place a → IsCame runs place b → a.packet ≤ b.packet
-one_came runs place a b h k = at_giver (λ m. m.packet ≤ b.packet) runs h.place a (k.greatest h.place h.below) h.gave
 
 one_made : (runs : List Run) (end : Option Moment) (start : ℕ) (a b : Moment) → IsMade runs end start a → IsMade runs end start b → a.packet ≤ b.packet
 one_made runs end start a b h k = elim k.shows [
@@ -125,12 +122,6 @@ module _ (framing : Framing) (clock : ℕ → ℕ) (fraction : ℕ → Option �
       let later = values_once (from + length m.octets.now) pieces ms ns (tail_is _ _ _ _ e) hk.1 kk.1 hc.1 more hb.1 kb.1 in
       ap (λ (v : MessageValue). v ∷ values_of ms) here ∙ ap (λ (vs : List MessageValue). message_value n ∷ vs) later
   values_once from (PassedOver octets ∷ pieces) (m ∷ ms) (n ∷ ns) e hk kk hc kc hb kb = values_once (from + length octets) pieces (m ∷ ms) (n ∷ ns) e hk kk hc kc hb kb
-
-came_packet : (runs : List Run) (place : ℕ) (m n : Message) → m.octets.now ≡ n.octets.now → IsCame runs (place + length m.octets.now) (moment_in m)
-    → IsCame runs (place + length n.octets.now) (moment_in n) → m.packet ≡ n.packet
-came_packet runs place m n o h k =
-    let one : IsCame runs (place + length m.octets.now) (moment_in n) = subst (λ (x : List ℕ). IsCame runs (place + length x) (moment_in n)) (sym o) k in
-    omega (arith, one_came runs (place + length m.octets.now) (moment_in m) (moment_in n) h one, one_came runs (place + length m.octets.now) (moment_in n) (moment_in m) one h)
 
 made_packet : (runs : List Run) (end : Option Moment) (place : ℕ) (m n : Message) → m.octets.now ≡ n.octets.now → IsMade runs end place (moment_in m) → IsMade runs end place (moment_in n)
     → m.packet ≡ n.packet
@@ -263,15 +254,6 @@ same_givers : (one other : Stream) → AreSame one other → (place : ℕ) → g
 same_givers one other same place =
     giver_as one.runs.now place ∙ ap (λ (o : Option Giver). option_map moment_by o) (same.givers place) ∙ sym (giver_as other.runs.now place)
 
-same_came : (runs others : List Run) → ((place : ℕ) → giver runs place ≡ giver others place) → (place : ℕ) (m : Message) → IsCame others (place + length m.octets.now) (moment_in m)
-    → IsCame runs (place + length m.octets.now) (moment_in m)
-same_came runs others same place m h = record {
-  place = h.place;
-  below = h.below;
-  gave = same h.place ∙ h.gave;
-  greatest = λ other lt. subst (λ (o : Option Moment). IfSome o (λ x. x.packet ≤ m.packet)) (sym (same other)) (h.greatest other lt);
-}
-
 same_made : (runs others : List Run) (end : Option Moment) → ((place : ℕ) → giver runs place ≡ giver others place) → (place : ℕ) (m : Message) → IsMade others end place (moment_in m)
     → IsMade runs end place (moment_in m)
 same_made runs others end same place m h = record {
@@ -285,21 +267,6 @@ pub are_timed : (clock : ℕ → ℕ) (fraction : ℕ → Option ℕ) (first : �
     → AllByRecursion (λ (run : Run). IsTimed clock fraction (moment_of run)) runs
 are_timed clock fraction first [] each micros = tt
 are_timed clock fraction first (run ∷ runs) each micros = ((each.0.0, micros.0), are_timed clock fraction first runs each.1 micros.1)
-
-pub heard_once : (framing : Framing) (clock : ℕ → ℕ) (fraction : ℕ → Option ℕ) (one other : Stream) (ms ns : List Message) (a b : Unshown) → AreSame one other
-    → AllByRecursion (λ (run : Run). IsTimed clock fraction (moment_of run)) one.runs.now → IsHeard framing one ms a → IsHeard framing other ns b → (values_of ms ≡ values_of ns) × (a ≡ b)
-heard_once framing clock fraction one other ms ns a b same each h k =
-    let runs = one.runs.now in
-    let framed = framed_once framing one.octets.now h.pieces k.pieces ms ns a b h.framed (subst (λ (o : List ℕ). AreFramed framing o k.pieces ns b) (sym same.octets) k.framed) in
-    let theirs : AreCame other.runs.now 0 h.pieces ns = subst (λ (ps : List Piece). AreCame other.runs.now 0 ps ns) (sym framed.pieces) k.came in
-    let came : AreCame runs 0 h.pieces ns =
-    each_at_weaker (λ place m. IsCame other.runs.now (place + length m.octets.now) (moment_in m)) (λ place m. IsCame runs (place + length m.octets.now) (moment_in m)) (HasKind framing)
-    (λ place m kind. same_came runs other.runs.now (same_givers one other same) place m) 0 h.pieces ns k.kinds theirs
-    in (
-      values_once framing clock fraction (λ place m. IsCame runs (place + length m.octets.now) (moment_in m)) (came_packet runs) 0 h.pieces ms ns framed.octets h.kinds k.kinds h.came came
-          (came_each (IsTimed clock fraction) runs 0 h.pieces ms each h.came) (came_each (IsTimed clock fraction) runs 0 h.pieces ns each came),
-      framed.unshown,
-    )
 
 pub said_once : (framing : Framing) (clock : ℕ → ℕ) (fraction : ℕ → Option ℕ) (one other : Stream) (end : Option End) (ms ns : List Message) (a b : Unshown) → AreSame one other
     → AllByRecursion (λ (run : Run). IsTimed clock fraction (moment_of run)) one.runs.now → IfSome (own_end end) (IsTimed clock fraction) → IsSaid framing one end ms a → IsSaid framing other end ns b → (values_of ms ≡ values_of ns) × (a ≡ b)

@@ -1,9 +1,10 @@
 -- What is known of a connection is one thing.
-use Rattle.std.proofs.Common.{◌≡◌, ◌∙◌, ◌<◌, ◌≤◌, ◌++◌, ℕ, List, [], ◌∷◌, Option, None, Some, map, option_map, inl, inr, refl, sym, ap, subst, arith}
+use Rattle.std.proofs.Common.{◌≡◌, ◌∙◌, ◌<◌, ◌≤◌, ◌++◌, ℕ, List, [], ◌∷◌, Option, None, Some, IfSome, map, option_map, inl, inr, refl, sym, ap, subst, arith}
 use Rattle.std.specs.List.{AllByRecursion}
 use Rattle.std.specs.Option.{option_or}
 use Rattle.streams.specs.declared.connection.Connection.{Connection}
 use Rattle.streams.specs.declared.connection.End.{End}
+use Rattle.streams.specs.declared.connection.Run.{Run}
 use Rattle.streams.specs.declared.passed.Side.{Side}
 use Rattle.streams.specs.declared.passed.Side.TheVariants.{Local, Peer}
 use Rattle.bgp_open.specs.OpenFault.{IsWellFormed}
@@ -11,20 +12,23 @@ use Rattle.bgp_check.specs.Answered.{number_of}
 use Rattle.bgp_import.proofs.Telling.{is_clocked}
 use Rattle.bgp_recording.proofs.Heard.{own_end_is}
 use Rattle.bgp_recording.specs.Gathered.{IsClocked, IsSaid}
-use Rattle.bgp_recording.specs.Moments.{end_moment}
-use Rattle.bgp_recording.specs.Once.{TellTheSame}
+use Rattle.bgp_recording.specs.Moments.{end_moment, moment_of}
+use Rattle.bgp_recording.specs.Once.{AreSame, TellTheSame}
 use Rattle.bgp_recording.specs.Values.{MessageValue, message_value, value_moment, values_of}
+use Rattle.bgp_recording.specs.declared.framing.Framing.{Framing}
 use Rattle.bgp_recording.specs.declared.framing.Framings.{Framings}
+use Rattle.bgp_recording.specs.declared.framing.Unshown.{Unshown}
 use Rattle.bgp_recording.specs.declared.message.Message.{Message}
+use Rattle.bgp_recording.specs.declared.pending.Moment.{Moment}
 use Rattle.bgp_values.specs.ErrorData.{ErrorFields}
 use Rattle.bgp_ended.specs.FirstOpen.{FirstOpen}
 use Rattle.bgp_ended.specs.Notified.{HasFirst, IsNotice, Notifies, Said, said_by, said_in}
-use Rattle.bgp_ended.specs.Offered.{AreMessages, framings_by, with_both_offers}
+use Rattle.bgp_ended.specs.Offered.{AreMessages, AreSentBy, end_for, framings_by, other_end, sent_by, with_both_offers}
 use Rattle.bgp_ended.specs.Once.{EachConnectionHasOneOutline}
 use Rattle.bgp_ended.specs.Outline.{IsOutlineOf, closed_by}
 use Rattle.bgp_ended.specs.Values.{EndedValue, Notified, OutlineValue}
 use Rattle.bgp_ended.proofs.OneConnection.{same_answer}
-use Rattle.bgp_ended.proofs.OneFraming.{IsTimed, are_timed, end_by, heard_once, said_once}
+use Rattle.bgp_ended.proofs.OneFraming.{IsTimed, are_timed, end_by, said_once}
 
 -- ---- the first OPEN
 
@@ -129,20 +133,41 @@ record AreOne (rs ss rs' ss' : List Message) : Type 0 where
   pub received : values_of rs ≡ values_of rs'
   pub sent : values_of ss ≡ values_of ss'
 
+-- the time of an end is the same, as either system has it
+mapped_end : (P : Moment → Type 0) (end : Option End) → IfSome end (λ e. P (end_moment e)) → IfSome (option_map other_end end) (λ e. P (end_moment e))
+mapped_end P None h = tt
+mapped_end P (Some end) h = h
+
+end_as : (P : Moment → Type 0) (side : Side) (end : Option End) → IfSome end (λ e. P (end_moment e)) → IfSome (end_for side end) (λ e. P (end_moment e))
+end_as P Local end h = h
+end_as P Peer end h = mapped_end P end h
+
+-- what either system sent tells the same
+sent_same : (side : Side) (one other : Connection) → TellTheSame one other → AreSame (sent_by side one) (sent_by side other)
+sent_same Local one other same = same.sent
+sent_same Peer one other same = same.received
+
+sent_timed : (side : Side) (one : Connection) (clocked : IsClocked one)
+    → AllByRecursion (λ (run : Run). IsTimed clocked.clock clocked.fractions.fraction (moment_of run)) (sent_by side one).runs.now
+sent_timed Local one clocked = are_timed clocked.clock clocked.fractions.fraction one.packet one.sent.runs.now clocked.sent clocked.fractions.sent
+sent_timed Peer one clocked = are_timed clocked.clock clocked.fractions.fraction one.packet one.received.runs.now clocked.received clocked.fractions.received
+
+one_side : (side : Side) (framing : Framing) (one other : Connection) (ms ns : List Message) (a b : Unshown) → TellTheSame one other → IsClocked one
+    → AreSentBy side framing one ms a → AreSentBy side framing other ns b → values_of ms ≡ values_of ns
+one_side side framing one other ms ns a b same clocked h k =
+    let Timed : Moment → Type 0 = IsTimed clocked.clock clocked.fractions.fraction in
+    let timed = end_by _ _ (λ e. Timed (end_moment e)) one.end (λ e g f. (g.0, f)) clocked.ends clocked.fractions.ends in
+    let ends = own_end_is Timed (end_for side one.end) (end_as Timed side one.end timed) in
+    let also : IsSaid framing (sent_by side other) (end_for side one.end) ns b =
+    subst (λ (o : Option End). IsSaid framing (sent_by side other) (end_for side o) ns b) (sym same.end) k in
+    (said_once framing clocked.clock clocked.fractions.fraction (sent_by side one) (sent_by side other) (end_for side one.end) ms ns a b (sent_same side one other same) (sent_timed side one clocked) ends h also).0
+
 one_list : (framings : Framings) (one other : Connection) (rs ss rs' ss' : List Message) → TellTheSame one other → IsClocked one
     → AreMessages framings one rs ss → AreMessages framings other rs' ss' → AreOne rs ss rs' ss'
-one_list framings one other rs ss rs' ss' same clocked h k =
-    let clock = clocked.clock in
-    let fractions = clocked.fractions in
-    let fraction = fractions.fraction in
-    let came = are_timed clock fraction one.packet one.received.runs.now clocked.received fractions.received in
-    let made = are_timed clock fraction one.packet one.sent.runs.now clocked.sent fractions.sent in
-    let ends = own_end_is (IsTimed clock fraction) one.end (end_by _ _ (λ e. IsTimed clocked.clock clocked.fractions.fraction (end_moment e)) one.end (λ e g f. (g.0, f)) clocked.ends fractions.ends) in
-    let said_of : IsSaid framings.sent other.sent one.end ss' k.sent_unshown = subst (λ (o : Option End). IsSaid framings.sent other.sent o ss' k.sent_unshown) (sym same.end) k.said in
-    record {
-      received = (heard_once framings.received clock fraction one.received other.received rs rs' h.received_unshown k.received_unshown same.received came h.heard k.heard).0;
-      sent = (said_once framings.sent clock fraction one.sent other.sent one.end ss ss' h.sent_unshown k.sent_unshown same.sent made ends h.said said_of).0;
-    }
+one_list framings one other rs ss rs' ss' same clocked h k = record {
+  received = one_side Peer framings.received one other rs rs' h.received_unshown k.received_unshown same clocked h.of_peer k.of_peer;
+  sent = one_side Local framings.sent one other ss ss' h.sent_unshown k.sent_unshown same clocked h.of_local k.of_local;
+}
 
 -- ---- the outline
 

@@ -22,7 +22,7 @@ IsEndOf messages end ended =
     × (ended ≡ option_or first (option_map closed_by end))
 
 -- The AS number of either end is that of the OPEN that it sent, if it sent one. The messages are
--- framed by what their receiver offers.
+-- framed by what their receiver offers, and each has the first packet that shows it.
 pub record IsOutlineOf (connection : Connection) (outline : OutlineValue) : Type 0 where
   pub local : Option (List ℕ)
   pub peers : Option (List ℕ)
