@@ -7,6 +7,7 @@ pub mod WayRecords
 pub mod SaidOver
 pub mod NoOrder
 pub mod TellingEnd
+pub mod NoUnder
 pub mod Verdicts
 pub mod Repeated
 pub mod Texts

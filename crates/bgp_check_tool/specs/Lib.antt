@@ -3,6 +3,7 @@ pub mod Made
 pub mod Judging
 pub mod Orders
 pub mod Another
+pub mod About
 pub mod Late
 pub mod Place
 pub mod Elsewhere

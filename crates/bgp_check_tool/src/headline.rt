@@ -35,11 +35,13 @@ use std::alloc::Allocator;
 /// that has one in Established; if the end refused an UPDATE, of the records before that UPDATE.
 /// That is the clause `yes`.
 ///
-/// If they begin with `unfinished after packet P`, packet P shows the last record, no run
-/// under such a configuration shows just the end's records in the order that is made, and some run
-/// shows more. Or no run shows just those of any order that the packets allow, and in one of them
-/// some run explains all that the end sent: then a note says so. That is the clause `unfinished`.
-/// All that is printed is tied to the packets, so that no other line passes for one of these.
+/// If they begin with `unfinished after packet P`, and no note says that this is one possible
+/// order, packet P shows the last record, no run under such a configuration shows just the end's
+/// records in any order that the packets allow, and in one of these some run explains all that the
+/// end sent. Another note says so if the order that is made is a no. If the note is there, no such
+/// run shows just the records in the order that is made, and some run shows more. That is the
+/// clause `unfinished`. All that is printed is tied to the packets, so that no other line passes
+/// for one of these.
 ///
 /// It writes a line for each connection, in the order of their first packets. After it come the
 /// reports on both ends, first on the one that opened the connection: the verdict; for a yes each

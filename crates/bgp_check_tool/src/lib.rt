@@ -9,6 +9,7 @@
 //! ```
 #![tactic(auto)]
 
+mod about;
 mod another;
 mod blocks;
 mod checking;
