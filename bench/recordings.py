@@ -9,6 +9,7 @@ tcpdump writes them, of one session between 192.0.2.1 (port 179, AS 65001) and 1
     recordings.py others COUNT      one UPDATE, after so many octets of other hosts' packets
     recordings.py both COUNT RATE   both announce so many prefixes, in an UPDATE each and so many in
                                     a second; then the local system sends an OPEN again
+    recordings.py each COUNT RATE   the same, and the peer sends an OPEN again, too
 
 It is written to standard output."""
 import struct
@@ -88,8 +89,8 @@ class Session:
         self.sends(LOCAL, ACK)
 
 
-def both(count, rate):
-    """UPDATEs of both systems, and an OPEN that the local system can't send in Established."""
+def both(count, rate, ends):
+    """UPDATEs of both systems, and an OPEN of these that they can't send in Established."""
     session = Session()
     session.begins(False)
     for first in range(0, count, rate):
@@ -99,7 +100,9 @@ def both(count, rate):
             octets = b''.join(update(index, number, source) for index in several)
             for at in range(0, len(octets), ROOM):
                 session.sends(source, ACK, octets[at:at + ROOM])
-    session.sends(LOCAL, ACK, open_message(65001, LOCAL, False))
+    for source in ends:
+        number = 65001 if source == LOCAL else 65002
+        session.sends(source, ACK, open_message(number, source, False))
 
 
 def others(octets):
@@ -116,8 +119,8 @@ def others(octets):
 
 def main(kind, count, rate=0):
     write(struct.pack('<IHHiIII', 0xa1b2c3d4, 2, 4, 0, 0, 262144, 101))
-    if kind == 'both':
-        both(count, rate)
+    if kind in ('both', 'each'):
+        both(count, rate, (LOCAL,) if kind == 'both' else (LOCAL, PEER))
         return
     if kind == 'others':
         others(count)

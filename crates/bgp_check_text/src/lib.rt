@@ -66,7 +66,7 @@ pub use own_faults::told_configuration;
 pub use quiet::{Printing, is_left_out};
 pub use reached::{Reached, reached_by};
 pub use read_alike::judge_options;
-pub use reason::{Reason, put_deed, put_reason, reason_of};
+pub use reason::{Reason, put_deed, put_reason, reason_of, reason_under};
 pub use sending::{sent_deed, sent_form};
 pub use settings::{Settings, is_no_yes};
 pub use states::put_routes_if;

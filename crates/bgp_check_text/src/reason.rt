@@ -3,8 +3,8 @@
 ghost use Rattle.std.specs.Prelude.{◌≡◌, ◌<◌, [], ℕ, List, Option, IfOk, OnErr, OnOk, length, map};
 ghost use Rattle.mrt.specs.Reader.{shown_of};
 ghost use Rattle.bgp_prefix.specs.declared.session.Session.{Session as TheSession};
-ghost use Rattle.bgp_judge.specs.Verdict.{verdict_value};
-ghost use Rattle.bgp_check.specs.Answered.{IsAnswerTo, IsJudged, answer_value, number_of};
+ghost use Rattle.bgp_judge.specs.Verdict.{HasVerdict, verdict_value};
+ghost use Rattle.bgp_check.specs.Answered.{IsAnswerTo, IsWidestFor, answer_value, number_of};
 ghost use Rattle.bgp_parts.specs.Opens.{HasOwnOpen};
 ghost use Rattle.bgp_explain.specs.KeptLines.{IsOfLines};
 ghost use Rattle.bgp_explain.specs.Places.{places_of};
@@ -188,25 +188,24 @@ fn explained<A: Allocator + Copy, T: Tracker<A>>(
     Ok(said_of::<A, T>(alloc, &judged.under, &telling, records)?)
 }
 
-/// Explains the verdict on an end's records, unless it is yes.
+/// Explains the verdict on an end's records under a configuration, unless it is yes.
 fn reason_for<A: Allocator + Copy, T: Tracker<A>>(
     alloc: A,
     asking: &Asking<'_>,
     records: &[Record<'_>],
     judged: &Judged<A>,
 ) -> Result<Reason<A>, AllocError>
-    requires { (session : TheSession) × IsJudged session (map shown_of records.now)
-        judged.now.as_number judged.now.peer_as judged.now.under
+    requires number { (own : Option (List ℕ)) → HasOwnOpen (map shown_of records.now) own
+        → judged.now.as_number ≡ number_of own }
+    requires holds { HasVerdict judged.now.under (map shown_of records.now)
         (verdict_value judged.now.verdict) }
-    ensures { (session : TheSession) → IsJudged session (map shown_of records.now)
-        judged.now.as_number judged.now.peer_as judged.now.under
-        (verdict_value judged.now.verdict)
+    ensures { (session : TheSession) → IsWidestFor session (map shown_of records.now)
+        judged.now.peer_as judged.now.under
         → IfOk result (λ reason. IsReasonOf session asking.now.sent asking.now.first
         (are_shown asking.now.places) asking.now.peer (places_of asking.now.places)
         asking.now.instead (map shown_of records.now) judged.now.peer_as judged.now.under
         (verdict_value judged.now.verdict) (deed_text reason) (lines_text reason)) }
 {
-    a_verdict_holds_under_its_configuration();
     match &judged.verdict {
         Verdict::Yes(_) => Ok(Reason::nothing(alloc)),
         Verdict::No(count) => {
@@ -215,6 +214,44 @@ fn reason_for<A: Allocator + Copy, T: Tracker<A>>(
         }
         Verdict::Unfinished => explained::<A, T>(alloc, asking, records, judged, None),
     }
+}
+
+/// Returns why the verdict that an end's records have under a configuration is a no or unfinished:
+/// what `bgp judge --explain` says of them under it, each with its place. It needn't be the one
+/// under which [`check_end`](bgp_check::check_end) reports the verdict. The text of a message that
+/// was sent goes by the limit of its receiver. The session's first record has that second, and this
+/// is said of other orders. After a yes it is nothing.
+///
+/// `AllocError` is answered if memory runs out.
+pub fn reason_under<A: Allocator + Copy, T: Tracker<A>>(
+    alloc: A,
+    sent: Limit,
+    first: Seconds,
+    peer: &Endpoint,
+    places: Places<'_>,
+    instead: OtherOrders,
+    records: &[Record<'_>],
+    judged: &Judged<A>,
+) -> Result<Reason<A>, AllocError>
+    requires number { (own : Option (List ℕ)) → HasOwnOpen (map shown_of records.now) own
+        → judged.now.as_number ≡ number_of own }
+    requires holds { HasVerdict judged.now.under (map shown_of records.now)
+        (verdict_value judged.now.verdict) }
+    ensures { (session : TheSession) → IsWidestFor session (map shown_of records.now)
+        judged.now.peer_as judged.now.under
+        → IfOk result (λ reason. IsReasonOf session sent first (are_shown places.entry) peer.now
+        (places_of places.entry) instead (map shown_of records.now) judged.now.peer_as
+        judged.now.under (verdict_value judged.now.verdict) (deed_text reason)
+        (lines_text reason)) }
+{
+    let asking = Asking {
+        sent,
+        first,
+        peer: *peer,
+        places,
+        instead,
+    };
+    reason_for::<A, T>(alloc, &asking, records, judged)
 }
 
 /// Returns why the verdict on an end's records is a no or unfinished: what `bgp judge --explain`
@@ -242,16 +279,12 @@ pub fn reason_of<A: Allocator + Copy, T: Tracker<A>>(
         (places_of places.entry) instead (map shown_of records.now) (answer_value answer.now)
         (deed_text reason) (lines_text reason)) }
 {
-    let asking = Asking {
-        sent,
-        first,
-        peer: *peer,
-        places,
-        instead,
-    };
+    a_verdict_holds_under_its_configuration();
     match answer {
         Answer::NotJudged(_) => Ok(Reason::nothing(alloc)),
-        Answer::Judged(judged) => reason_for::<A, T>(alloc, &asking, records, judged),
+        Answer::Judged(judged) => {
+            reason_under::<A, T>(alloc, sent, first, peer, places, instead, records, judged)
+        }
     }
 }
 

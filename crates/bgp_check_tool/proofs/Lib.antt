@@ -1,5 +1,6 @@
 pub mod Asking
 pub mod OtherEnd
+pub mod Marked
 pub mod OneMore
 pub mod AllTold
 pub mod Stretch
@@ -7,6 +8,7 @@ pub mod WayRecords
 pub mod SaidOver
 pub mod NoOrder
 pub mod TellingEnd
+pub mod NoUnder
 pub mod Verdicts
 pub mod Repeated
 pub mod Texts

@@ -37,6 +37,9 @@ use Rattle.bgp_import.specs.Talks.{HoldsEach}
 use Rattle.bgp_list.specs.Firsts.{firsts_after, with_first}
 use Rattle.std.proofs.lemmas.List.{map-append}
 use Rattle.bgp_check_tool.specs.Counted.{with_block}
+use Rattle.bgp_check_tool.specs.Marks.{AddsMarks, marks_of}
+use Rattle.bgp_check_tool.specs.declared.marks.Marks.{Marks}
+use Rattle.bgp_check_tool.proofs.Marked.{adds_block, adds_nothing}
 use Rattle.bgp_import.proofs.ListedSoFar.{among_keys}
 
 text_of : (f : ℕ × Block → List ℕ) (blocks : List (ℕ × Block)) (one : ℕ × Block) → flat_map f blocks ++ f one ≡ flat_map f (blocks ++ one ∷ [])
@@ -62,7 +65,7 @@ firsts_more firsts (refusal ∷ later) one = firsts_more (with_first firsts refu
 
 -- the blocks of the first entries are put, and these are left
 pub record PutsFront {Y T Z : Type 0} {sink : sinks.Ghosts T} (options : CheckOptions) (packets : List Recorded) (last_packet : ℕ) (entries rest : List (ℕ × Listed Z))
-    (lines lines' : CheckLines Y T sink) (tally tally' : Tally) (firsts firsts' : List (Option Refusal)) : Type 0 where
+    (lines lines' : CheckLines Y T sink) (tally tally' : Tally) (firsts firsts' : List (Option Refusal)) (marks marks' : Marks Y) : Type 0 where
   pub blocks : List (ℕ × Block)
   pub told : AllByRecursion (λ (b : ℕ × Block). IsToldAt options packets last_packet b.0 b.1) blocks
   pub places : keys_of blocks ++ keys_of rest ≡ keys_of entries
@@ -70,13 +73,14 @@ pub record PutsFront {Y T Z : Type 0} {sink : sinks.Ghosts T} (options : CheckOp
   pub wrote : PutsLines lines lines' (blocks_text options.printing blocks)
   pub tallied : tally' ≡ tally_from tally blocks
   pub added : firsts' ≡ firsts_after firsts (refusals_in blocks)
+  pub marked : AddsMarks marks marks' (marks_of options.printing blocks)
 
 pub one_more : {Y T Z : Type 0} {sink : sinks.Ghosts T} → Joins sink → (options : CheckOptions) (packets : List Recorded) (last_packet place : ℕ) (one : Listed Z)
     (entries before rest : List (ℕ × Listed Z)) (lines middle lines' : CheckLines Y T sink) (tally between tally' : Tally) (firsts few firsts' : List (Option Refusal))
-    → before ≡ (place, one) ∷ rest → PutsFront options packets last_packet entries before lines middle tally between firsts few
-    → (IsListed options.port packets place one → PutsBlock options packets last_packet place middle lines' between tally' few firsts')
-    → PutsFront options packets last_packet entries rest lines lines' tally tally' firsts firsts'
-one_more {Y} {T} {Z} law options packets last_packet place one entries before rest lines middle lines' tally between tally' firsts few firsts' is so_far puts =
+    (marks known marks' : Marks Y) → before ≡ (place, one) ∷ rest → PutsFront options packets last_packet entries before lines middle tally between firsts few marks known
+    → (IsListed options.port packets place one → PutsBlock options packets last_packet place middle lines' between tally' few firsts' known marks')
+    → PutsFront options packets last_packet entries rest lines lines' tally tally' firsts firsts' marks marks'
+one_more {Y} {T} {Z} law options packets last_packet place one entries before rest lines middle lines' tally between tally' firsts few firsts' marks known marks' is so_far puts =
     let left : AreListed options.port packets ((place, one) ∷ rest) = subst (λ (es : List (ℕ × Listed Z)). AreListed options.port packets es) is so_far.left in
     let put = puts left.0 in
     let places : keys_of so_far.blocks ++ place ∷ keys_of rest ≡ keys_of entries =
@@ -90,6 +94,7 @@ one_more {Y} {T} {Z} law options packets last_packet place one entries before re
       tallied = put.tallied ∙ ap (λ (t : Tally). with_block t put.block) so_far.tallied ∙ tally_of tally so_far.blocks (place, put.block);
       added = put.added ∙ ap (λ (f : List (Option Refusal)). with_first f (refusal_in put.block)) so_far.added ∙ firsts_more firsts (refusals_in so_far.blocks) (refusal_in put.block)
           ∙ ap (firsts_after firsts) (sym (map-append (λ (b : ℕ × Block). refusal_in b.1) so_far.blocks ((place, put.block) ∷ [])));
+      marked = adds_block options.printing so_far.blocks (place, put.block) marks known marks' so_far.marked put.marked;
     }
 
 pub one_listed : {Z : Type 0} (port : ℕ) (packets : List Recorded) (place : ℕ) (one : Listed Z) (before rest : List (ℕ × Listed Z)) → before ≡ (place, one) ∷ rest
@@ -136,9 +141,9 @@ no_keys = tt
 
 -- none is put yet
 pub start_put : {Y T Z : Type 0} {sink : sinks.Ghosts T} (options : CheckOptions) (packets : List Recorded) (last_packet : ℕ) (entries first : List (ℕ × Listed Z)) (lines : CheckLines Y T sink) (tally : Tally)
-    (firsts : List (Option Refusal)) → first ≡ entries → AreListed options.port packets entries → PutsLines lines lines []
-    → PutsFront options packets last_packet first first lines lines tally tally firsts firsts
-start_put {Y} {T} {Z} options packets last_packet entries first lines tally firsts is listed wrote = record {
+    (firsts : List (Option Refusal)) (marks : Marks Y) → first ≡ entries → AreListed options.port packets entries → PutsLines lines lines []
+    → PutsFront options packets last_packet first first lines lines tally tally firsts firsts marks marks
+start_put {Y} {T} {Z} options packets last_packet entries first lines tally firsts marks is listed wrote = record {
   blocks = [];
   told = tt;
   places = refl;
@@ -146,22 +151,23 @@ start_put {Y} {T} {Z} options packets last_packet entries first lines tally firs
   wrote = wrote;
   tallied = refl;
   added = refl;
+  marked = adds_nothing marks;
 }
 
 -- all are
 pub all_put : {Y T Z : Type 0} {sink : sinks.Ghosts T} (options : CheckOptions) (packets : List Recorded) (talks : Talks Z) (last_packet : ℕ) (listed : BTreeMap ℕ (Listed Z))
-    (first rest : List (ℕ × Listed Z)) (lines lines' : CheckLines Y T sink) (tally tally' : Tally) (firsts firsts' : List (Option Refusal)) (lacking : Option Refusal)
+    (first rest : List (ℕ × Listed Z)) (lines lines' : CheckLines Y T sink) (tally tally' : Tally) (firsts firsts' : List (Option Refusal)) (marks marks' : Marks Y) (lacking : Option Refusal)
     → first ≡ listed.entries → rest ≡ [] → IsOrdered nat_cmp listed → (HoldsEach options.port packets talks → HasAll options.port packets (IsPlaceOf listed)) → lacking ≡ None
-    → PutsFront options packets last_packet first rest lines lines' tally tally' firsts firsts'
-    → PutsAll options packets talks last_packet lines lines' tally tally' firsts firsts' lacking
-all_put {Y} {T} {Z} options packets talks last_packet listed first rest lines lines' tally tally' firsts firsts' lacking is done rises all calm front =
+    → PutsFront options packets last_packet first rest lines lines' tally tally' firsts firsts' marks marks'
+    → PutsAll options packets talks last_packet lines lines' tally tally' firsts firsts' marks marks' lacking
+all_put {Y} {T} {Z} options packets talks last_packet listed first rest lines lines' tally tally' firsts firsts' marks marks' lacking is done rises all calm front =
     let whole : keys_of front.blocks ≡ keys_of listed.entries =
     sym (append-nil (keys_of front.blocks)) ∙ subst (λ (es : List (ℕ × Listed Z)). keys_of front.blocks ++ keys_of es ≡ keys_of first) done front.places
     ∙ ap (λ (es : List (ℕ × Listed Z)). keys_of es) is in
     record {
       places = keys_of listed.entries;
       rise = rises;
-      puts = record { blocks = front.blocks; told = front.told; are_places = whole; wrote = front.wrote; tallied = front.tallied; added = front.added };
+      puts = record { blocks = front.blocks; told = front.told; are_places = whole; wrote = front.wrote; tallied = front.tallied; added = front.added; marked = front.marked };
       lacks = inl calm;
       none = inl calm;
       some = inl calm;
@@ -176,12 +182,12 @@ at_none port packets q (inl theirs) = inl record { segments = theirs.segments; t
 at_none port packets q (inr refused) = absurd (in_none refused.place refused.is_place)
 
 pub none_put : {Y T Z : Type 0} {sink : sinks.Ghosts T} (options : CheckOptions) (packets : List Recorded) (talks : Talks Z) (last_packet : ℕ) (lines : CheckLines Y T sink) (tally : Tally)
-    (firsts : List (Option Refusal)) (lacking : Option Refusal) → PutsLines lines lines [] → lacking ≡ Some (refusals.Memory last_packet)
-    → ¬ HasAll options.port packets (λ place. ⊥) → PutsAll options packets talks last_packet lines lines tally tally firsts firsts lacking
-none_put options packets talks last_packet lines tally firsts lacking wrote lacks few = record {
+    (firsts : List (Option Refusal)) (marks : Marks Y) (lacking : Option Refusal) → PutsLines lines lines [] → lacking ≡ Some (refusals.Memory last_packet)
+    → ¬ HasAll options.port packets (λ place. ⊥) → PutsAll options packets talks last_packet lines lines tally tally firsts firsts marks marks lacking
+none_put options packets talks last_packet lines tally firsts marks lacking wrote lacks few = record {
   places = [];
   rise = no_keys;
-  puts = record { blocks = []; told = tt; are_places = refl; wrote = wrote; tallied = refl; added = refl };
+  puts = record { blocks = []; told = tt; are_places = refl; wrote = wrote; tallied = refl; added = refl; marked = adds_nothing marks };
   lacks = inr lacks;
   none = inr refl;
   some = inr (λ all. few (λ q is. at_none options.port packets q (all q is)));

@@ -1,5 +1,5 @@
 -- What the lines of an end are worth.
-use Rattle.std.proofs.Common.{◌≡◌, ◌∙◌, ◌<◌, ◌++◌, ◌⊎◌, inl, inr, ℕ, zero, suc, Bool, List, [], ◌∷◌, Option, None, Some, codes, refl, reverse, sym, ap, subst, arith, length, take}
+use Rattle.std.proofs.Common.{◌≡◌, ◌∙◌, ◌<◌, ◌++◌, ◌⊎◌, inl, inr, ℕ, zero, suc, Bool, true, List, [], ◌∷◌, Option, None, Some, codes, refl, reverse, sym, ap, subst, arith, length, take}
 use Rattle.std.specs.List.{AllByRecursion, slice_get}
 use Rattle.packets.specs.Packet.{Recorded}
 use Rattle.bgp_prefix.specs.Shown.{ShownRecord}
@@ -45,7 +45,7 @@ use Rattle.bgp_check_tool.specs.declared.orders.NoOrder.{NoOrder}
 use Rattle.bgp_check_tool.specs.Judging.{options_by}
 use Rattle.bgp_check_tool.specs.Place.{last_place, place_at, sent_place}
 use Rattle.bgp_check_tool.specs.Places.{IsToldAt, IsToldOfOne}
-use Rattle.bgp_check_tool.specs.Printed.{AreRecordsOf, AreRecordsOfAWay, HasRecords, HasRecordsIn, HasRecordsSo, HasTrueNoes, HasTrueUnfinished, HasTrueYes, HasVerdictIn, IsTrueNo, IsTrueOverall, NoesAreTrue, ToldNoesAreTrue, ToldUnfinishedAreTrue, ToldVerdictIsOverAll, ToldYesesAreTrue, UnfinishedAreTrue, YesesAreTrue}
+use Rattle.bgp_check_tool.specs.Printed.{AreRecordsOf, AreRecordsOfAWay, HasRecords, HasRecordsIn, HasRecordsSo, HasTrueNoes, HasTrueUnfinished, HasTrueYes, HasVerdictIn, IsTrueNo, IsTrueOverall, IsUnfinishedOverAll, NoesAreTrue, ToldNoesAreTrue, ToldUnfinishedAreTrue, ToldVerdictIsOverAll, ToldYesesAreTrue, UnfinishedAreTrue, YesesAreTrue}
 use Rattle.bgp_check_tool.specs.Seen.{seen_from, session_from}
 use Rattle.bgp_check_tool.specs.Text.{after_no, after_unfinished, after_yes, answer_text, deed_by, name_of, name_with, told_lines}
 use Rattle.bgp_check_tool.specs.Told.{EndTold, IsEndTold, IsOfAll, IsOfAnother, IsOfMade, place_for, place_of}
@@ -228,7 +228,7 @@ module _ (options : CheckOptions) (packets : List Recorded) (last_packet place :
     }
 
     -- those of another order
-    way_records : IsOfAnother options (asked side) its seen end.framings end.entries end.received_unshown end.sent_unshown end.answer told
+    way_records : IsOfAnother options (asked side) its seen end.framings end.entries end.received_unshown end.sent_unshown end.answer end.about told
         → HasRecordsSo AreRecordsOfAWay options packets last_packet session opening side end.entries
     way_records of = record {
       addresses = it.addresses;
@@ -248,6 +248,16 @@ module _ (options : CheckOptions) (packets : List Recorded) (last_packet place :
         is_looked_in = of.made.is_looked_in.told;
         are_offered = of.made.are_offered;
       };
+    }
+
+    -- none is whole, if that is known
+    whole_never : NoneIsWhole → IsMade options.within seen end.framings end.entries end.received_unshown end.sent_unshown → told.over_all ≡ true
+        → IsUnfinishedOverAll options packets last_packet session opening side
+    unfolding records_so
+    whole_never law made known = record {
+      entries = end.entries;
+      has_records = records_so made;
+      no_order = law options (asked side) session opening both.connection side told end known;
     }
 
     abbrev RecordsIn : Order → Type 0
@@ -271,7 +281,7 @@ module _ (options : CheckOptions) (packets : List Recorded) (last_packet place :
     module _ (number : Option ℕ) (peer : PeerAs) (under : Config) where
       -- on the records of the made order
       verdict_made : (verdict : VerdictValue) → told.answer ≡ JudgedAs number peer under verdict
-          → IsOfMade options (asked side) its seen end.framings end.entries end.received_unshown end.sent_unshown end.answer told → VerdictIn verdict orders.Made
+          → IsOfMade options (asked side) its seen end.framings end.entries end.received_unshown end.sent_unshown end.answer end.about told → VerdictIn verdict orders.Made
       verdict_made (Yes ends) is of = record {
         entries = end.entries;
         has_records = records_so of.made;
@@ -290,7 +300,7 @@ module _ (options : CheckOptions) (packets : List Recorded) (last_packet place :
 
       -- a yes on those of another
       verdict_another : (verdict : VerdictValue) → told.answer ≡ JudgedAs number peer under verdict
-          → IsOfAnother options (asked side) its seen end.framings end.entries end.received_unshown end.sent_unshown end.answer told → VerdictIn verdict orders.Another
+          → IsOfAnother options (asked side) its seen end.framings end.entries end.received_unshown end.sent_unshown end.answer end.about told → VerdictIn verdict orders.Another
       verdict_another (Yes ends) is of = record {
         entries = end.entries;
         has_records = way_records of;
@@ -301,15 +311,10 @@ module _ (options : CheckOptions) (packets : List Recorded) (last_packet place :
 
       -- or over all orders
       verdict_all : NoneIsWhole → (verdict : VerdictValue) → told.answer ≡ JudgedAs number peer under verdict
-          → IsOfAll options (asked side) its seen end.framings end.entries end.received_unshown end.sent_unshown end.answer told → VerdictIn verdict orders.All
-      unfolding records_so
+          → IsOfAll options (asked side) its seen end.framings end.entries end.received_unshown end.sent_unshown end.answer end.about told → VerdictIn verdict orders.All
       verdict_all law verdict is of = (
         verdict_is number (number_in end.answer) peer of.peer under of.under verdict (sym is ∙ of.is_told),
-        record {
-          entries = end.entries;
-          has_records = records_so of.made;
-          no_order = law options (asked side) session opening both.connection side told end of.is_order;
-        },
+        whole_never law of.made of.is_known,
       )
 
       verdict_in : NoneIsWhole → (verdict : VerdictValue) → told.answer ≡ JudgedAs number peer under verdict → VerdictIn verdict told.order
@@ -428,6 +433,15 @@ module _ (options : CheckOptions) (packets : List Recorded) (last_packet place :
         | inr of ↦ records_so side told end of.made
       ]
 
+  -- so that none is whole, if that is known
+  known_unfinished : NoneIsWhole → (side : Side) (told : EndTold) (end : IsEndTold options (asked side) session opening both.connection side told) (it : IsUnfinished told.answer)
+      → told.over_all ≡ true → IsUnfinishedOverAll options packets last_packet session opening side
+  known_unfinished law side told end it known =
+      elim (unfinished_of options (asked side) (end_of side session opening) (session_from side session) (seen_from side both.connection) told end it.number it.peer it.under it.is) [
+        | inl of ↦ whole_never side told end law of.made known
+        | inr of ↦ whole_never side told end law of.made known
+      ]
+
   true_unfinished : NoneIsWhole → (side : Side) (told : EndTold) → IsEndTold options (asked side) session opening both.connection side told
       → HasTrueUnfinished options packets last_packet session opening side told
   unfolding unfinished_lines
@@ -443,6 +457,7 @@ module _ (options : CheckOptions) (packets : List Recorded) (last_packet place :
         named = subst (λ (e : Endpoint). told_lines options.printing.routes told ≡ unfinished_lines told (last_place end.entries) e) end.is_end
             (subst (λ (p : Place). told_lines options.printing.routes told ≡ unfinished_lines told p told.end) place text);
         verdict = verdict_in side told end it.number it.peer it.under law Unfinished it.is;
+        known = known_unfinished law side told end it;
       }
 
 pub unfinished_are_true : NoneIsWhole → ToldUnfinishedAreTrue
@@ -619,6 +634,15 @@ all_yeses_as stopped options packets last_packet [] all = tt
 all_yeses_as stopped options packets last_packet (b ∷ blocks) all =
     (yeses_as stopped options packets last_packet b.1 all.0, all_yeses_as stopped options packets last_packet blocks all.1)
 
+over_all_as : (stopped : Option WhyRefused) (options : CheckOptions) (packets : List Recorded) (last_packet : ℕ) (session : Session) (opening : Opening) (side : Side)
+    → IsUnfinishedOverAll (options_by stopped options) packets last_packet session opening side → IsUnfinishedOverAll options packets last_packet session opening side
+unfolding records_as
+over_all_as stopped options packets last_packet session opening side h = record {
+  entries = h.entries;
+  has_records = records_as AreRecordsOf stopped options packets last_packet session opening side h.entries h.has_records;
+  no_order = h.no_order;
+}
+
 verdict_in_as : (order : Order) (stopped : Option WhyRefused) (options : CheckOptions) (packets : List Recorded) (last_packet : ℕ) (session : Session) (opening : Opening) (side : Side)
     → HasVerdictIn order (options_by stopped options) packets last_packet session opening side Unfinished → HasVerdictIn order options packets last_packet session opening side Unfinished
 unfolding records_as
@@ -632,14 +656,7 @@ verdict_in_as orders.Another stopped options packets last_packet session opening
   has_records = records_as AreRecordsOf stopped options packets last_packet session opening side h.entries h.has_records;
   over_all = h.over_all;
 }
-verdict_in_as orders.All stopped options packets last_packet session opening side h = (
-  h.0,
-  record {
-    entries = h.1.entries;
-    has_records = records_as AreRecordsOf stopped options packets last_packet session opening side h.1.entries h.1.has_records;
-    no_order = h.1.no_order;
-  },
-)
+verdict_in_as orders.All stopped options packets last_packet session opening side h = (h.0, over_all_as stopped options packets last_packet session opening side h.1)
 
 unfinished_as : (stopped : Option WhyRefused) (options : CheckOptions) (packets : List Recorded) (last_packet : ℕ) (session : Session) (opening : Opening) (side : Side) (told : EndTold)
     → HasTrueUnfinished (options_by stopped options) packets last_packet session opening side told → HasTrueUnfinished options packets last_packet session opening side told
@@ -652,6 +669,7 @@ unfinished_as stopped options packets last_packet session opening side told has 
       has_number = it.has_number;
       named = it.named;
       verdict = verdict_in_as told.order stopped options packets last_packet session opening side it.verdict;
+      known = λ known. over_all_as stopped options packets last_packet session opening side (it.known known);
     }
 
 both_unfinished_as : (stopped : Option WhyRefused) (options : CheckOptions) (packets : List Recorded) (last_packet : ℕ) (block : Block)

@@ -10,7 +10,6 @@ use Rattle.bgp_recording.specs.declared.framing.Framings.{Framings}
 use Rattle.bgp_recording.specs.declared.ordering.Exchange.{Exchange}
 use Rattle.bgp_orders.specs.Connections.{TellsConnection}
 use Rattle.bgp_orders.specs.Explained.{HasVerdictOver, IsExplained, IsWhole, No, Unfinished, VerdictOver}
-use Rattle.bgp_orders.specs.Rows.{IsAnswer}
 use Rattle.bgp_orders.specs.declared.explained.Explained.{Explained}
 use Rattle.bgp_orders.specs.declared.explained.Explained.TheVariants as answers
 use Rattle.bgp_orders.proofs.Over.{at_most_explained, whole_is_explained}
@@ -22,7 +21,7 @@ use Rattle.bgp_check.specs.WidestOf.{AreTold, parts_of, widest_of}
 use Rattle.bgp_check.specs.declared.widest.Widest.{Widest}
 use Rattle.bgp_check_tool.specs.declared.orders.Said.{Said}
 use Rattle.bgp_check_tool.specs.declared.orders.Said.TheVariants as said
-use Rattle.bgp_check_tool.specs.Orders.{IsNoBetter, IsOver, IsSaid, IsSaidBy, IsSaidOver, IsToldOver, records_received, records_sent, tells_other}
+use Rattle.bgp_check_tool.specs.Orders.{IsAnswerUnless, IsNoBetter, IsOver, IsSaid, IsSaidBy, IsSaidOver, IsToldOver, records_received, records_sent, tells_other}
 
 not_beyond : (config : Config) (within : ℕ) (exchange : Exchange) (count before : ℕ) → HasVerdictOver config within exchange (No count) → count ≤ before
     → ¬ IsExplained config within exchange (before + 1)
@@ -77,7 +76,7 @@ module _ (within : ℕ) (exchange : Exchange) (wanting another : Config) where
       first = λ other. subst (λ (w : Option Config). IfSome w (λ config. ¬ HasVerdictOver config within exchange verdict)) (sym is_wanting) first;
     }
 
-    pub said_first : (one other : Explained) → IsAnswer wanting within exchange one → IsAnswer another within exchange other → tells_other one other ≡ false
+    pub said_first : (one other : Explained) → IsAnswerUnless wanting within exchange one → IsAnswerUnless another within exchange other → tells_other one other ≡ false
         → IsSaidOver widest within exchange true wanting one
     said_first (answers.All true) other is is_other tells = tt
     said_first (answers.All false) (answers.All true) is is_other tells = absurd (let k : ⊥ = cc in k)
@@ -91,7 +90,7 @@ module _ (within : ℕ) (exchange : Exchange) (wanting another : Config) where
     said_first (answers.Only count) answers.TooMany is is_other tells = absurd (let k : ⊥ = cc in k)
     said_first answers.TooMany other is is_other tells = tt
 
-    pub said_other : (one other : Explained) → IsAnswer wanting within exchange one → IsAnswer another within exchange other → tells_other one other ≡ true
+    pub said_other : (one other : Explained) → IsAnswerUnless wanting within exchange one → IsAnswerUnless another within exchange other → tells_other one other ≡ true
         → IsSaidOver widest within exchange false another other
     said_other one (answers.All true) is is_other tells = tt
     said_other (answers.All true) (answers.All false) is is_other tells = absurd (let k : ⊥ = cc in k)
@@ -119,7 +118,7 @@ module _ (within : ℕ) (exchange : Exchange) (widest : Widest) (is_none : wides
     first = λ other. subst (λ (w : Option Config). IfSome w (λ config. ¬ HasVerdictOver config within exchange verdict)) (sym is_none) tt;
   }
 
-  pub said_alone : (x : Explained) → IsAnswer widest.another within exchange x → IsSaidOver widest within exchange false widest.another x
+  pub said_alone : (x : Explained) → IsAnswerUnless widest.another within exchange x → IsSaidOver widest within exchange false widest.another x
   said_alone (answers.All true) is = tt
   said_alone (answers.All false) is = of_alone Unfinished is is.1
   said_alone (answers.Only count) is = of_alone (No count) is is.2
@@ -148,7 +147,7 @@ module _ (session : Session) (within : ℕ) (framings : Framings) (connection : 
     is_told = is;
   }
 
-  pub said_so : (peer : PeerAs) → peer ≡ peer_as_by wants told (heard_as widest.wanting) → (x : Said) → IsSaidBy exchange peer under explained x → IsSaid session within framings connection x
+  pub said_so : (peer : PeerAs) → peer ≡ peer_as_by wants told (heard_as widest.wanting) → (x : Said) → IsSaidBy exchange own peers peer under explained x → IsSaid session within framings connection x
   unfolding over_so
   said_so peer is_peer (said.Whole config) by = tt
   said_so peer is_peer (said.Unfinished its) by = record {
@@ -159,5 +158,10 @@ module _ (session : Session) (within : ℕ) (framings : Framings) (connection : 
   said_so peer is_peer (said.NoOrder found) by = record {
     over = over_so (No found.unexplained.before) (subst (λ (e : Explained). IsSaidOver widest within exchange wants under e) by.0 is_said);
     is_message = by.1;
+    is_under = by.3;
+    is_peer = by.2 ∙ is_peer;
+    is_own = by.4;
+    is_peers = by.5;
   }
+  said_so peer is_peer (said.TooLong known) by = tt
   said_so peer is_peer said.Neither by = tt

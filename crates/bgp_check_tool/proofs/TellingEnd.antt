@@ -23,12 +23,12 @@ use Rattle.bgp_check_text.specs.Places.{shown_places}
 use Rattle.bgp_import.specs.Captures.{put_off}
 use Rattle.bgp_check_text.specs.declared.options.Asked.{Asked}
 use Rattle.bgp_check_text.specs.declared.options.JudgeOptions.{JudgeOptions}
-use Rattle.bgp_check_tool.specs.declared.another.Order.TheVariants as orders
 use Rattle.bgp_check_tool.specs.declared.options.CheckOptions.{CheckOptions}
 use Rattle.bgp_check_tool.specs.declared.late.Late.{Late}
+use Rattle.bgp_check_tool.specs.About.{IsAbout}
 use Rattle.bgp_check_tool.specs.Another.{IsNo, IsYes}
 use Rattle.bgp_check_tool.specs.Late.{IsLate}
-use Rattle.bgp_check_tool.specs.Orders.{IsFoundTo, IsUnexplained}
+use Rattle.bgp_check_tool.specs.Orders.{IsFoundTo, IsKnown, IsUnexplained, IsUnfinished}
 use Rattle.bgp_check_tool.specs.Told.{EndTold, IsOfAll, IsOfAnother, IsOfMade, IsTold, peer_end, place_of}
 use Rattle.bgp_check_text.specs.AsNumber.{HasAsNumber}
 use Rattle.bgp_check_tool.specs.Elsewhere.{IsOther, in_made}
@@ -62,13 +62,13 @@ module _ (options : CheckOptions) (asked : Asked) (end : Endpoint) (session : Se
   ]
 
   abbrev OfMade : Type 0
-  OfMade = IsOfMade options asked session connection is.framings is.entries is.received_unshown is.sent_unshown is.answer told
+  OfMade = IsOfMade options asked session connection is.framings is.entries is.received_unshown is.sent_unshown is.answer is.about told
 
   abbrev OfAnother : Type 0
-  OfAnother = IsOfAnother options asked session connection is.framings is.entries is.received_unshown is.sent_unshown is.answer told
+  OfAnother = IsOfAnother options asked session connection is.framings is.entries is.received_unshown is.sent_unshown is.answer is.about told
 
   abbrev OfAll : Type 0
-  OfAll = IsOfAll options asked session connection is.framings is.entries is.received_unshown is.sent_unshown is.answer told
+  OfAll = IsOfAll options asked session connection is.framings is.entries is.received_unshown is.sent_unshown is.answer is.about told
 
   -- a no is told in the made order
   pub no_of_made : (number : Option ℕ) (peer : PeerAs) (under : Config) (count : ℕ) → told.answer ≡ JudgedAs number peer under (No count) → OfMade
@@ -124,21 +124,9 @@ module _ (options : CheckOptions) (asked : Asked) (end : Endpoint) (session : Se
     ]
   ]
 
-  made_or_all : told.order ≡ orders.Made → told.order ≡ orders.All → ⊥
-  made_or_all made all = let k : orders.Made ≡ orders.All = sym made ∙ all in let never : ⊥ = cc in never
-
-  another_or_all : told.order ≡ orders.Another → told.order ≡ orders.All → ⊥
-  another_or_all made all = let k : orders.Another ≡ orders.All = sym made ∙ all in let never : ⊥ = cc in never
-
-  -- what is told over all orders
-  pub of_all : told.order ≡ orders.All → OfAll
-  of_all all = elim is.are_of [
-    | inl of ↦ absurd (made_or_all of.is_order all)
-    | inr others ↦ elim others [
-      | inl of ↦ absurd (another_or_all of.is_order all)
-      | inr of ↦ of
-    ]
-  ]
+  -- what is known to be unfinished over all orders
+  pub known_over_all : told.over_all ≡ true → (peer : PeerAs) × (under : Config) × IsUnfinished session options.within is.framings connection peer under
+  known_over_all known = subst (IsKnown session options.within is.framings connection) known is.is_known
 
 -- ---- what is told beside an answer
 
@@ -191,28 +179,32 @@ pub reached_so : (records : List ShownRecord) (answer : AnswerValue) (reached re
 reached_so records answer reached reached' same is = subst (λ (r : ReachedValue). IsReached records answer r) (sym same) is
 
 -- where the no of the made order stands
-pub made_so : (entries : List Entry) (found found' : Option NoOrder) (answer answer' : AnswerValue) (its : Option Place) → found ≡ found' → answer ≡ answer'
-    → its ≡ in_made entries found' answer' → its ≡ in_made entries found answer
-made_so entries found found' answer answer' its same_found same_answer is =
-    is ∙ ap (λ (f : Option NoOrder). in_made entries f answer') (sym same_found) ∙ ap (λ (a : AnswerValue). in_made entries found a) (sym same_answer)
+pub made_so : (entries : List Entry) (found found' : Option NoOrder) (about : AnswerValue) (its : Option Place) → found ≡ found' → its ≡ in_made entries found' about
+    → its ≡ in_made entries found about
+made_so entries found found' about its same_found is = is ∙ ap (λ (f : Option NoOrder). in_made entries f about) (sym same_found)
+
+-- of which the reason is told
+pub about_so : (session : Session) (records : List ShownRecord) (answer about : AnswerValue) (found found' : Option NoOrder) → found ≡ found' → IsAbout session records answer found' about
+    → IsAbout session records answer found about
+about_so session records answer about found found' same is = subst (λ (f : Option NoOrder). IsAbout session records answer f about) (sym same) is
 
 -- ---- all of it
 
 pub told_so : (options : CheckOptions) (asked : Asked) (end : Endpoint) (session : Session) (connection : Connection) (framings : Framings) (entries : List Entry) (received sent : Unshown)
-    (told : EndTold) (answer its : AnswerValue) → told.answer ≡ its → IsAnswerTo session (records_of entries) answer
-    → IsOfMade options asked session connection framings entries received sent answer told
-    ⊎ IsOfAnother options asked session connection framings entries received sent answer told
-    ⊎ IsOfAll options asked session connection framings entries received sent answer told
+    (told : EndTold) (answer about its : AnswerValue) → told.answer ≡ its → IsAnswerTo session (records_of entries) answer → IsAbout session (records_of entries) answer told.found about
+    → IsOfMade options asked session connection framings entries received sent answer about told
+    ⊎ IsOfAnother options asked session connection framings entries received sent answer about told
+    ⊎ IsOfAll options asked session connection framings entries received sent answer about told
     → told.end ≡ end → HasAsNumber (records_of entries) told.as_number
-    → IsFoundTo session options.within framings connection its told.found → told.place ≡ place_of its told.found entries
+    → IsFoundTo session options.within framings connection its told.found → IsKnown session options.within framings connection told.over_all → told.place ≡ place_of its told.found entries
     → IsOther session framings.sent.limit (peer_end session connection) (records_of entries) told.found told.in_made told.other → told.first ≡ second_at entries 0
     → told.put_off ≡ put_off 0 entries → told.within ≡ options.within
     → IsLate session connection its told.late → IsReached (records_of entries) its told.reached
-    → (instead : OtherOrders) → AreInstead options.within framings connection entries answer told.found instead
-    → IsReasonTo session framings.sent.limit (second_at entries 0) true (peer_end session connection) (shown_places entries) instead (records_of entries) answer told.deed told.reason
+    → (instead : OtherOrders) → AreInstead options.within framings connection entries about told.found instead
+    → IsReasonTo session framings.sent.limit (second_at entries 0) true (peer_end session connection) (shown_places entries) instead (records_of entries) about told.deed told.reason
     → told.received ≡ received → told.sent ≡ sent
     → IsTold options asked end session connection told
-told_so options asked end session connection framings entries received sent told answer its same answers are_of is_end is_number is_found is_place is_other is_first is_put_off is_within is_late is_reached instead are_instead explains
+told_so options asked end session connection framings entries received sent told answer about its same answers is_about are_of is_end is_number is_found is_known is_place is_other is_first is_put_off is_within is_late is_reached instead are_instead explains
     is_received is_sent =
     record {
       entries = entries;
@@ -221,10 +213,13 @@ told_so options asked end session connection framings entries received sent told
       framings = framings;
       answer = answer;
       answers = answers;
+      about = about;
+      is_about = is_about;
       are_of = are_of;
       is_end = is_end;
       is_number = is_number;
       is_found = subst (λ (a : AnswerValue). IsFoundTo session options.within framings connection a told.found) (sym same) is_found;
+      is_known = is_known;
       is_place = is_place ∙ ap (λ (a : AnswerValue). place_of a told.found entries) (sym same);
       is_other = is_other;
       is_first = is_first;

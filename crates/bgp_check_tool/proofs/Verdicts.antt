@@ -29,7 +29,7 @@ use Rattle.bgp_check_tool.specs.Orders.{IsFoundTo, IsUnexplained, UnexplainedByA
 use Rattle.bgp_check_tool.specs.declared.orders.NoOrder.{NoOrder}
 use Rattle.bgp_check_tool.specs.Seen.{seen_from, session_from}
 use Rattle.bgp_check_tool.specs.Told.{EndTold, IsEndTold}
-use Rattle.bgp_check_tool.proofs.TellingEnd.{judged_so, no_of_made, of_all, told_stretch}
+use Rattle.bgp_check_tool.proofs.TellingEnd.{judged_so, known_over_all, no_of_made, told_stretch}
 
 -- of the records that are judged
 pub over_answer : (options : CheckOptions) (asked : Asked) (session : Session) (opening : Opening) (connection : Connection) (side : Side) (told : EndTold) (number : Option ℕ) (peer : PeerAs)
@@ -45,11 +45,11 @@ over_answer options asked session opening connection side told number peer under
     (answer.over stretch (subst (λ (o : Option (List ℕ)). IsFaultless o) same faultless))
 
 pub none_whole : UnfinishedByAll → NoneIsWhole
-none_whole law options asked session opening connection side told end all =
+none_whole law options asked session opening connection side told end known =
     let its = session_from side session in
     let seen = seen_from side connection in
-    let of = of_all options asked (end_of side session opening) its seen told end all in
-    law its options.within end.framings seen of.peer of.under of.over
+    let (peer, under, over) = known_over_all options asked (end_of side session opening) its seen told end known in
+    law its options.within end.framings seen peer under over
 
 pub verdict_is : (number its : Option ℕ) (peer another : PeerAs) (under other : Config) (verdict : VerdictValue) → JudgedAs number peer under verdict ≡ JudgedAs its another other Unfinished
     → verdict ≡ Unfinished
@@ -61,7 +61,7 @@ over_all law options asked session opening connection side told number peer unde
     let seen = seen_from side connection in
     elim (judged_so options asked (end_of side session opening) its seen told end number peer under verdict is) [
       | inl same ↦ inl (over_answer options asked session opening connection side told number peer under verdict end same own has faultless)
-      | inr of ↦ inr (verdict_is number _ peer of.peer under of.under verdict (sym is ∙ of.is_told), of.is_order, law options asked session opening connection side told end of.is_order)
+      | inr of ↦ inr (verdict_is number _ peer of.peer under of.under verdict (sym is ∙ of.is_told), of.is_order, law options asked session opening connection side told end of.is_known)
     ]
 
 pub no_run : NoConfigurationExplains → NoConfigurationHasARun
@@ -78,7 +78,7 @@ no_run law options asked session opening connection side told number peer under 
 none_found : (unexplained : NoOrder) (found : Option NoOrder) → found ≡ Some unexplained → found ≡ None → ⊥
 none_found unexplained found some none = cc
 
-found_is : (session : Session) (within : ℕ) (framings : Framings) (connection : Connection) (answer : AnswerValue) (found : Option NoOrder) (unexplained : NoOrder)
+pub found_is : (session : Session) (within : ℕ) (framings : Framings) (connection : Connection) (answer : AnswerValue) (found : Option NoOrder) (unexplained : NoOrder)
     → found ≡ Some unexplained → IsFoundTo session within framings connection answer found → IsUnexplained session within framings connection unexplained
 found_is session within framings connection (Unjudged why) found unexplained some none = absurd (none_found unexplained found some none)
 found_is session within framings connection (JudgedAs number peer under (Yes ends)) found unexplained some none = absurd (none_found unexplained found some none)

@@ -28,6 +28,13 @@ IsNo (JudgedAs number peer under (Yes ends)) = ⊥
 IsNo (JudgedAs number peer under (No count)) = Unit {0}
 IsNo (JudgedAs number peer under Unfinished) = ⊥
 
+-- it is judged, and unfinished
+abbrev pub IsLeft : AnswerValue → Type 0
+IsLeft (Unjudged why) = ⊥
+IsLeft (JudgedAs number peer under (Yes ends)) = ⊥
+IsLeft (JudgedAs number peer under (No count)) = ⊥
+IsLeft (JudgedAs number peer under Unfinished) = Unit {0}
+
 -- it is judged, and that is no yes
 abbrev pub IsNoYes : AnswerValue → Type 0
 IsNoYes (Unjudged why) = ⊥
@@ -42,12 +49,14 @@ number_in (JudgedAs number peer under verdict) = number
 
 -- ---- what is found over all orders, where this is answered of the made one
 
--- A message that no order explains is found of a no, and that some order explains all. Of another
--- order the answer on its records is kept, and is a yes.
+-- A message that no order explains is found of a no. That some order explains all is found of a no,
+-- and of what is unfinished. Of another order the answer on its records is kept, and is a yes.
 abbrev pub IsSought : {X : Type 0} → Session → AnswerValue → Searched X → Type 0
 IsSought session answer searches.Nothing = Unit {0}
+IsSought session answer (searches.TooLong known) = Unit {0}
 IsSought session answer (searches.NoOrder found) = IsNo answer
 IsSought session answer (searches.Unfinished its) = IsNo answer
+IsSought session answer (searches.AsMade its) = IsLeft answer
 IsSought session answer (searches.Another another) =
     IsNoYes answer
     × (map shown_of another.recording.records.items ≡ records_of another.recording.entries.items)
@@ -59,9 +68,12 @@ IsSought session answer (searches.Another another) =
 abbrev pub IsFound : {X : Type 0} → Session → ℕ → Framings → Connection → Searched X
     → Type 0
 IsFound session within framings connection searches.Nothing = Unit {0}
+IsFound session within framings connection (searches.TooLong known) = Unit {0}
 IsFound session within framings connection (searches.NoOrder found) =
     IsUnexplained session within framings connection found
 IsFound session within framings connection (searches.Unfinished its) =
+    IsUnfinished session within framings connection its.peer_as its.under
+IsFound session within framings connection (searches.AsMade its) =
     IsUnfinished session within framings connection its.peer_as its.under
 IsFound session within framings connection (searches.Another another) =
     AreOfAWayOver framings within connection another.recording.entries.items

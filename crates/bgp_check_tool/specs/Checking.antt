@@ -28,9 +28,11 @@ use Rattle.bgp_check_tool.specs.Blocks.{Block, block_text, refusal_in}
 use Rattle.bgp_check_tool.specs.Counted.{with_block, with_refused}
 use Rattle.bgp_import.specs.Places.{HasAll}
 use Rattle.bgp_check_tool.specs.Judging.{options_by}
+use Rattle.bgp_check_tool.specs.Marks.{AddsMarks, block_marks, marks_of}
+use Rattle.bgp_check_tool.specs.declared.marks.Marks.{Marks}
 use Rattle.bgp_check_tool.specs.Places.{IsToldAt}
 use Rattle.bgp_import.specs.Reading.{IsMemory, IsReadTo, cut_short_at, failures_of, looked_at}
-use Rattle.bgp_import.specs.Talks.{HoldsEach}
+use Rattle.bgp_import.specs.Talks.{HoldsEach, HoldsSome}
 
 -- ---- the blocks, each with the packet at which it stands
 
@@ -48,18 +50,21 @@ refusals_in blocks = map (λ (b : ℕ × Block). refusal_in b.1) blocks
 -- is there.
 pub record PutsBlock {Y T : Type 0} {sink : sinks.Ghosts T} (options : CheckOptions)
     (packets : List Recorded) (last_packet place : ℕ) (lines lines' : CheckLines Y T sink)
-    (tally tally' : Tally) (firsts firsts' : List (Option Refusal)) : Type 0 where
+    (tally tally' : Tally) (firsts firsts' : List (Option Refusal)) (marks marks' : Marks Y)
+    : Type 0 where
   pub block : Block
   pub told : IsToldAt options packets last_packet place block
   pub wrote : PutsLines lines lines' (block_text options.printing block)
   pub tallied : tally' ≡ with_block tally block
   pub added : firsts' ≡ with_first firsts (refusal_in block)
+  pub marked : AddsMarks marks marks' (block_marks options.printing block)
 
 -- Blocks were put at these places, and are counted; of their refusals the first of each number is
 -- added.
 pub record PutsBlocks {Y T : Type 0} {sink : sinks.Ghosts T} (options : CheckOptions)
     (packets : List Recorded) (last_packet : ℕ) (places : List ℕ) (lines lines' : CheckLines Y T sink)
-    (tally tally' : Tally) (firsts firsts' : List (Option Refusal)) : Type 0 where
+    (tally tally' : Tally) (firsts firsts' : List (Option Refusal)) (marks marks' : Marks Y)
+    : Type 0 where
   pub blocks : List (ℕ × Block)
   pub told : AllByRecursion
       (λ (b : ℕ × Block). IsToldAt options packets last_packet b.0 b.1) blocks
@@ -67,6 +72,7 @@ pub record PutsBlocks {Y T : Type 0} {sink : sinks.Ghosts T} (options : CheckOpt
   pub wrote : PutsLines lines lines' (blocks_text options.printing blocks)
   pub tallied : tally' ≡ tally_from tally blocks
   pub added : firsts' ≡ firsts_after firsts (refusals_in blocks)
+  pub marked : AddsMarks marks marks' (marks_of options.printing blocks)
 
 -- The blocks of these packets were put, in the order of their places; or none, where there was no
 -- memory for a list of them: that memory was refused is no answer beside a block, nor where there
@@ -74,10 +80,11 @@ pub record PutsBlocks {Y T : Type 0} {sink : sinks.Ghosts T} (options : CheckOpt
 pub record PutsAll {Y T : Type 0} {sink : sinks.Ghosts T} (options : CheckOptions)
     {Z : Type 0} (packets : List Recorded) (talks : Talks Z) (last_packet : ℕ)
     (lines lines' : CheckLines Y T sink) (tally tally' : Tally) (firsts firsts' : List (Option Refusal))
-    (lacking : Option Refusal) : Type 0 where
+    (marks marks' : Marks Y) (lacking : Option Refusal) : Type 0 where
   pub places : List ℕ
   pub rise : IsStrictlySortedBy nat_cmp places
-  pub puts : PutsBlocks options packets last_packet places lines lines' tally tally' firsts firsts'
+  pub puts : PutsBlocks options packets last_packet places lines lines' tally tally' firsts
+      firsts' marks marks'
   pub lacks : (lacking ≡ None) ⊎ (lacking ≡ Some (refusals.Memory last_packet))
   pub none : (lacking ≡ None) ⊎ (places ≡ [])
   pub some : (lacking ≡ None) ⊎ (¬ HasAll options.port packets (Contains places))
@@ -156,3 +163,15 @@ pub record ChecksRecording {S T : Type 0} (gives : S → S → List ℕ → Type
       ++ (file_text stopped ++ (file_text lacking ++ (cut_note options.printing.quiet cut_short
       ++ (nothing_text options.port tally ++ last_text options.printing.quiet tally)))))
       (status_of tally) sink sink' status
+
+-- And of these blocks it is known where a no stands; the connections of the packets are held.
+pub record ChecksMarked {S T Y : Type 0} (gives : S → S → List ℕ → Type 0) (has_ended : S → Bool)
+    (takes : T → T → List ℕ → Type 0) (source_failures : S → ℕ) (failures : T → ℕ)
+    (options : CheckOptions) (source source' : S) (sink sink' : T) (status : ℕ)
+    (cut_short : Option CutShort) (firsts : List (Option Refusal))
+    (refusal : Option Refusal) (nothing : Option NothingJudged) (talks : Talks Y)
+    (marks marks' : Marks Y) : Type 0 where
+  pub checks : ChecksRecording gives has_ended takes source_failures failures options source
+      source' sink sink' status cut_short firsts refusal nothing
+  pub held : HoldsSome options.port checks.packets talks
+  pub marked : AddsMarks marks marks' (marks_of options.printing checks.blocks)

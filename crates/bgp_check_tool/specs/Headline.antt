@@ -1,5 +1,5 @@
 -- What a verdict on an end is worth.
-use Rattle.std.specs.Prelude.{◌≡◌, ◌⊎◌, ◌+◌, ℕ, List, Option, Some, reverse, take}
+use Rattle.std.specs.Prelude.{◌≡◌, ◌⊎◌, ◌+◌, true, ℕ, List, Option, Some, reverse, take}
 use Rattle.packets.specs.Packet.{Recorded}
 use Rattle.bgp_prefix.specs.declared.session.Session.{Session}
 use Rattle.bgp_open.specs.declared.config.Config.{Config}
@@ -79,14 +79,14 @@ NoOrderHasARun =
     → NoOrderExplains (session_from side session) options.within end.framings
     (seen_from side connection) found.unexplained
 
--- What is told over all orders is unfinished: none that the packets allow is whole, and some of them
--- explains all that was sent.
+-- What is known to be unfinished over all orders: none that the packets allow is whole, and some of
+-- them explains all that was sent.
 abbrev pub NoneIsWhole : Type 0
 NoneIsWhole =
     (options : CheckOptions) (asked : Asked) (session : Session) (opening : Opening)
     (connection : Connection) (side : Side) (told : EndTold)
     (end : IsEndTold options asked session opening connection side told)
-    → told.order ≡ orders.All
+    → told.over_all ≡ true
     → NoOrderIsWhole (session_from side session) options.within end.framings
     (seen_from side connection)
 

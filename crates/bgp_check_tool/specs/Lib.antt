@@ -3,6 +3,7 @@ pub mod Made
 pub mod Judging
 pub mod Orders
 pub mod Another
+pub mod About
 pub mod Late
 pub mod Place
 pub mod Elsewhere
@@ -10,6 +11,7 @@ pub mod Instead
 pub mod Told
 pub mod Text
 pub mod Blocks
+pub mod Marks
 pub mod Counted
 pub mod Places
 pub mod Checking

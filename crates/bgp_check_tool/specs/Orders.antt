@@ -18,6 +18,7 @@ use Rattle.bgp_recording.specs.declared.ordering.Exchange.{Exchange}
 use Rattle.bgp_orders.specs.Connections.{IsPacketOf, TellsConnection}
 use Rattle.bgp_orders.specs.Explained.{HasVerdictOver, IsExplained, IsWhole, VerdictOver}
 use Rattle.bgp_orders.specs.Explained.{Yes, No, Unfinished}
+use Rattle.bgp_orders.specs.Rows.{IsAnswer}
 use Rattle.bgp_orders.specs.declared.connection.Unexplained.{Unexplained}
 use Rattle.bgp_orders.specs.declared.explained.Explained.{Explained}
 use Rattle.bgp_orders.specs.declared.explained.Explained.TheVariants as answers
@@ -81,6 +82,14 @@ tells_other (answers.All false) other = false
 tells_other one (answers.All false) = true
 tells_other (answers.Only count) (answers.Only later) = nat_lt count later
 
+-- what the search answers under a configuration, if it isn't too long or isn't made
+abbrev pub IsAnswerUnless : Config → ℕ → Exchange → Explained → Type 0
+IsAnswerUnless config within exchange (answers.All is_whole) =
+    IsAnswer config within exchange (answers.All is_whole)
+IsAnswerUnless config within exchange (answers.Only count) =
+    IsAnswer config within exchange (answers.Only count)
+IsAnswerUnless config within exchange answers.TooMany = Unit {0}
+
 -- This is answered under that configuration. Of an order that is whole nothing is said: its records
 -- are judged.
 abbrev pub IsSaidOver : Widest → ℕ → Exchange → Bool → Config → Explained → Type 0
@@ -91,14 +100,26 @@ IsSaidOver widest within exchange wants under (answers.Only count) =
     IsToldOver widest within exchange wants under (No count)
 IsSaidOver widest within exchange wants under answers.TooMany = Unit {0}
 
--- What the answer under that configuration, which is for this peer, says: of a no with its message.
-abbrev pub IsSaidBy : Exchange → PeerAs → Config → Explained → Said → Type 0
-IsSaidBy exchange peer under explained (said.Whole config) = Unit {0}
-IsSaidBy exchange peer under explained (said.NoOrder found) =
+-- the OPENs that are told with such a message: the end's, and its peer's
+abbrev pub own_of : NoOrder → Option (List ℕ)
+own_of found = option_map (λ octets. octets.now) found.own
+
+abbrev pub peers_of : NoOrder → Option (List ℕ)
+peers_of found = option_map (λ octets. octets.now) found.peers
+
+-- What the answer under that configuration, which is for this peer, says: of a no with its message,
+-- the configuration, and these OPENs.
+abbrev pub IsSaidBy : Exchange → Option (List ℕ) → Option (List ℕ) → PeerAs → Config → Explained
+    → Said → Type 0
+IsSaidBy exchange own peers peer under explained (said.Whole config) = Unit {0}
+IsSaidBy exchange own peers peer under explained (said.NoOrder found) =
     (explained ≡ answers.Only found.unexplained.before) × IsMessageOf exchange found
-IsSaidBy exchange peer under explained (said.Unfinished its) =
+    × (found.its.peer_as ≡ peer) × (found.its.under ≡ under)
+    × (own_of found ≡ own) × (peers_of found ≡ peers)
+IsSaidBy exchange own peers peer under explained (said.Unfinished its) =
     (explained ≡ answers.All false) × (its.peer_as ≡ peer) × (its.under ≡ under)
-IsSaidBy exchange peer under explained said.Neither = Unit {0}
+IsSaidBy exchange own peers peer under explained (said.TooLong known) = Unit {0}
+IsSaidBy exchange own peers peer under explained said.Neither = Unit {0}
 
 -- The local system of a session that has the connection so, framed so, where a received message is
 -- handled within so many seconds after it came.
@@ -120,10 +141,17 @@ module _ (session : Session) (within : ℕ) (framings : Framings) (connection : 
     pub under : Config
     pub is_told : IsToldOver widest within exchange wants under verdict
 
-  -- under none of its widest configurations some order explains this sent message
+  -- Under none of its widest configurations some order explains this sent message. Those before it
+  -- are explained under the configuration that is told with it, which is for that peer, and is the
+  -- widest by these OPENs.
   pub record IsUnexplained (found : NoOrder) : Type 0 where
     pub over : IsOver (No found.unexplained.before)
     pub is_message : IsMessageOf over.exchange found
+    pub is_under : found.its.under ≡ over.under
+    pub is_peer : found.its.peer_as
+        ≡ peer_as_by over.wants over.told (heard_as over.widest.wanting)
+    pub is_own : own_of found ≡ over.own
+    pub is_peers : peers_of found ≡ over.peers
 
   -- All that was sent is explained under this configuration, which is for this peer, and under none
   -- of the widest some order is whole.
@@ -132,11 +160,17 @@ module _ (session : Session) (within : ℕ) (framings : Framings) (connection : 
     pub is_under : under ≡ over.under
     pub is_peer : peer ≡ peer_as_by over.wants over.told (heard_as over.widest.wanting)
 
+  -- that it is unfinished over all orders, where that is known
+  abbrev pub IsKnown : Bool → Type 0
+  IsKnown false = Unit {0}
+  IsKnown true = (peer : PeerAs) × (under : Config) × IsUnfinished peer under
+
   -- what the search says
   abbrev pub IsSaid : Said → Type 0
   IsSaid (said.Whole config) = Unit {0}
   IsSaid (said.NoOrder found) = IsUnexplained found
   IsSaid (said.Unfinished its) = IsUnfinished its.peer_as its.under
+  IsSaid (said.TooLong known) = Unit {0}
   IsSaid said.Neither = Unit {0}
 
   -- such a message is found of a no alone; that none is found says nothing

@@ -1,6 +1,6 @@
 -- What the lines of an end are worth: a verdict that is printed of a recording.
-use Rattle.std.specs.Prelude.{◌≡◌, ◌≢◌, ◌<◌, ◌+◌, ◌++◌, ◌⊎◌, ℕ, Bool, List, [], Option, None}
-use Rattle.std.specs.Prelude.{Some, codes, reverse, take}
+use Rattle.std.specs.Prelude.{◌≡◌, ◌≢◌, ◌<◌, ◌+◌, ◌++◌, ◌⊎◌, ℕ, Bool, true, List, [], Option}
+use Rattle.std.specs.Prelude.{None, Some, codes, reverse, take}
 use Rattle.std.specs.List.{AllByRecursion, slice_get}
 use Rattle.packets.specs.Packet.{Recorded}
 use Rattle.bgp_prefix.specs.declared.session.Session.{Session}
@@ -286,7 +286,7 @@ YesesAreTrue options packets last_packet (AllRefused addresses refusal) = Unit {
 
 -- They name this end, and the packet and the second of its last record in the made order. The
 -- verdict is that on its records in that order. Or it is so over all orders that the packets allow,
--- and then a note says so.
+-- and then a note says so. If no note says that one order was judged, it is so over all of them.
 pub record IsTrueUnfinished (options : CheckOptions) (packets : List Recorded) (last_packet : ℕ)
     (session : Session) (opening : Opening) (side : Side) (told : EndTold) : Type 0 where
   pub entries : List Entry
@@ -298,6 +298,8 @@ pub record IsTrueUnfinished (options : CheckOptions) (packets : List Recorded) (
       ++ after_unfinished told
   pub verdict : HasVerdictIn told.order options packets last_packet session opening side
       Unfinished
+  pub known : told.over_all ≡ true
+      → IsUnfinishedOverAll options packets last_packet session opening side
 
 -- the lines of an end begin so, and are true
 abbrev pub HasTrueUnfinished : CheckOptions → List Recorded → ℕ → Session → Opening → Side

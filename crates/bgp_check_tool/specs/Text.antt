@@ -1,5 +1,6 @@
 -- The lines of an end.
-use Rattle.std.specs.Prelude.{◌++◌, Bool, ℕ, List, [], Option, None, Some, codes}
+use Rattle.std.specs.Prelude.{◌++◌, Bool, true, false, ℕ, List, [], Option, None}
+use Rattle.std.specs.Prelude.{Some, codes}
 use Rattle.bgp_judge.specs.Verdict.{No, Unfinished, VerdictValue, Yes}
 use Rattle.segments.specs.declared.found.Endpoint.{Endpoint}
 use Rattle.bgp_check.specs.declared.peer_as.PeerAs.{PeerAs}
@@ -66,11 +67,16 @@ another_text orders.All = []
 
 -- ---- what is unfinished
 
+-- one order was judged, unless it is known to be so over all
+abbrev pub one_unless : Bool → ℕ → List ℕ
+one_unless false put_off = one_order_line put_off
+one_unless true put_off = []
+
 -- over all orders, where the made one is a no
-abbrev pub unfinished_text : Order → ℕ → List ℕ
-unfinished_text orders.Made put_off = one_order_line put_off
-unfinished_text orders.Another put_off = one_order_line put_off
-unfinished_text orders.All put_off = all_orders_line
+abbrev pub unfinished_text : Order → Bool → ℕ → List ℕ
+unfinished_text orders.Made over_all put_off = one_unless over_all put_off
+unfinished_text orders.Another over_all put_off = one_unless over_all put_off
+unfinished_text orders.All over_all put_off = all_orders_line
 
 -- ---- all of it
 
@@ -93,8 +99,8 @@ abbrev pub after_unfinished : EndTold → List ℕ
 after_unfinished told =
     in_made_text told.first told.deed told.in_made
     ++ (told.reason ++ (unshown_notes told.received told.sent
-    ++ (late_text told.within told.late ++ (unfinished_text told.order told.put_off
-    ++ judge_text told.judge))))
+    ++ (late_text told.within told.late
+    ++ (unfinished_text told.order told.over_all told.put_off ++ judge_text told.judge))))
 
 abbrev pub verdict_text : Bool → EndTold → PeerAs → VerdictValue → List ℕ
 verdict_text routes told peer (Yes ends) =

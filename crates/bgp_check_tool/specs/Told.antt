@@ -1,5 +1,5 @@
 -- What is told of one of a connection's two ends.
-use Rattle.std.specs.Prelude.{◌≡◌, ◌⊎◌, true, ℕ, List, Option, None, Some}
+use Rattle.std.specs.Prelude.{◌≡◌, ◌⊎◌, Bool, true, ℕ, List, Option, None, Some}
 use Rattle.bgp_prefix.specs.declared.session.Session.{Session}
 use Rattle.segments.specs.declared.found.Endpoint.{Endpoint}
 use Rattle.streams.specs.declared.connection.Connection.{Connection}
@@ -25,6 +25,7 @@ use Rattle.bgp_check_text.specs.declared.options.JudgeOptions.{JudgeOptions}
 use Rattle.bgp_check_tool.specs.declared.options.CheckOptions.{CheckOptions}
 use Rattle.bgp_check_tool.specs.declared.another.Order.{Order}
 use Rattle.bgp_check_tool.specs.declared.another.Order.TheVariants as orders
+use Rattle.bgp_check_tool.specs.About.{IsAbout}
 use Rattle.bgp_check_tool.specs.Another.{IsNo, IsNoYes, IsYes, number_in}
 use Rattle.bgp_check_tool.specs.Judging.{AreOptionsTo}
 use Rattle.bgp_check_tool.specs.Instead.{AreInstead}
@@ -37,7 +38,7 @@ use Rattle.bgp_why.specs.declared.endpoint.Endpoint.{Endpoint as PeerEnd}
 use Rattle.bgp_why.specs.declared.other_orders.OtherOrders.{OtherOrders}
 use Rattle.bgp_why.specs.declared.place.Place.{Place}
 use Rattle.bgp_check_tool.specs.Made.{IsMade}
-use Rattle.bgp_check_tool.specs.Orders.{IsFoundTo, IsUnfinished}
+use Rattle.bgp_check_tool.specs.Orders.{IsFoundTo, IsKnown, IsUnfinished}
 use Rattle.bgp_orders.specs.WholeWays.{AreOfAWayOver}
 use Rattle.bgp_check_tool.specs.Seen.{seen_from, session_from}
 
@@ -49,6 +50,8 @@ pub record EndTold : Type 0 where
   pub answer : AnswerValue
   -- in which order that is so
   pub order : Order
+  -- whether it is known to be unfinished over all orders
+  pub over_all : Bool
   -- the first sent message that no order explains, of a no, if one is known
   pub found : Option NoOrder
   -- where a no stands: at that message, or else at the impossible record; of another verdict where
@@ -84,6 +87,7 @@ told_value told = record {
   as_number = told.as_number;
   answer = answer_value told.answer;
   order = told.order;
+  over_all = told.over_all;
   found = told.found;
   place = told.place;
   in_made = told.in_made;
@@ -118,19 +122,19 @@ peer_end session connection =
     record { address = session.peer; port = Some connection.peer_port }
 
 -- In which order of the end's messages it is told, of which these are the entries, and this is
--- answered of them; an end of this session that has the connection so, framed so, and is asked for
--- so.
+-- answered of them; the reason is about that. The end of this session has the connection so, framed
+-- so, and is asked for so.
 module _ (options : CheckOptions) (asked : Asked) (session : Session) (connection : Connection)
     (framings : Framings) (entries : List Entry) (received_unshown sent_unshown : Unshown)
-    (answer : AnswerValue) (told : EndTold) where
+    (answer about : AnswerValue) (told : EndTold) where
   -- in the made one; and how `bgp judge` gives it
   pub record IsOfMade : Type 0 where
     pub is_order : told.order ≡ orders.Made
     pub made : IsMade options.within connection framings entries received_unshown sent_unshown
     pub is_told : told.answer ≡ answer
-    pub is_in_made : told.in_made ≡ in_made entries told.found told.answer
+    pub is_in_made : told.in_made ≡ in_made entries told.found about
     pub judges : AreOptionsTo options.within asked connection entries received_unshown
-        sent_unshown options.settings told.answer told.judge
+        sent_unshown options.settings about told.judge
 
   -- Or it is a yes in another one that the packets allow. What is answered of the made one, framed
   -- the same, is no yes; and no line says how `bgp judge` gives it.
@@ -160,14 +164,16 @@ module _ (options : CheckOptions) (asked : Asked) (session : Session) (connectio
     pub under : Config
     pub over : IsUnfinished session options.within framings connection peer under
     pub is_told : told.answer ≡ JudgedAs (number_in answer) peer under Unfinished
+    pub is_known : told.over_all ≡ true
     pub is_in_made : told.in_made ≡ no_place entries answer
     pub no_judge : told.judge ≡ None
 
 -- This is told of the end at this address and port, of this session, that has the connection so:
--- what is answered of its records, or over all orders, and why, with what is said of other orders; of
--- a no the first sent message that no order explains, if one is known; what the answer becomes, where a message may be handled as
--- late as it can be said; the line of a message that it sent goes by the limit of its receiver. And
--- how `bgp judge` gives it, where the connection is asked for so.
+-- what is answered of its records, or over all orders, and why, with what is said of other orders;
+-- of a no the first sent message that no order explains, if one is known; whether it is known to be
+-- unfinished over all orders; what the answer becomes, where a message may be handled as late as it
+-- can be said; the line of a message that it sent goes by the limit of its receiver. And how `bgp
+-- judge` gives it, where the connection is asked for so.
 pub record IsTold (options : CheckOptions) (asked : Asked) (end : Endpoint) (session : Session)
     (connection : Connection) (told : EndTold) : Type 0 where
   pub entries : List Entry
@@ -176,15 +182,18 @@ pub record IsTold (options : CheckOptions) (asked : Asked) (end : Endpoint) (ses
   pub framings : Framings
   pub answer : AnswerValue
   pub answers : IsAnswerTo session (records_of entries) answer
+  pub about : AnswerValue
+  pub is_about : IsAbout session (records_of entries) answer told.found about
   pub are_of : IsOfMade options asked session connection framings entries received_unshown
-      sent_unshown answer told
+      sent_unshown answer about told
       ⊎ IsOfAnother options asked session connection framings entries received_unshown
-      sent_unshown answer told
+      sent_unshown answer about told
       ⊎ IsOfAll options asked session connection framings entries received_unshown
-      sent_unshown answer told
+      sent_unshown answer about told
   pub is_end : told.end ≡ end
   pub is_number : HasAsNumber (records_of entries) told.as_number
   pub is_found : IsFoundTo session options.within framings connection told.answer told.found
+  pub is_known : IsKnown session options.within framings connection told.over_all
   pub is_place : told.place ≡ place_of told.answer told.found entries
   pub is_other : IsOther session framings.sent.limit (peer_end session connection)
       (records_of entries) told.found told.in_made told.other
@@ -194,9 +203,9 @@ pub record IsTold (options : CheckOptions) (asked : Asked) (end : Endpoint) (ses
   pub is_late : IsLate session connection told.answer told.late
   pub is_reached : IsReached (records_of entries) told.answer told.reached
   pub instead : OtherOrders
-  pub are_instead : AreInstead options.within framings connection entries answer told.found instead
+  pub are_instead : AreInstead options.within framings connection entries about told.found instead
   pub explains : IsReasonTo session framings.sent.limit (second_at entries 0) true
-      (peer_end session connection) (shown_places entries) instead (records_of entries) answer
+      (peer_end session connection) (shown_places entries) instead (records_of entries) about
       told.deed told.reason
   pub is_received : told.received ≡ received_unshown
   pub is_sent : told.sent ≡ sent_unshown

@@ -1,6 +1,6 @@
 //! A yes of an end in another order than the made one, which the packets allow, too.
 
-ghost use Rattle.std.specs.Prelude.{◌≡◌, IfSome, IsTrue, map};
+ghost use Rattle.std.specs.Prelude.{◌≡◌, ◌↔◌, IfSome, IsTrue, map};
 ghost use Rattle.mrt.specs.Reader.{shown_of};
 ghost use Rattle.bgp_recording.specs.Captured.{records_of};
 ghost use Rattle.bgp_recording.specs.Gathered.{IsClocked, IsCovered};
@@ -9,7 +9,7 @@ ghost use Rattle.bgp_check.specs.Answered.{IsAnswerTo, answer_value};
 ghost use Rattle.bgp_check_tool.specs.Another.{IsFound, IsNo, IsNoYes, IsSought, IsYes};
 
 use crate::ending::Viewed;
-use crate::orders::{NoOrder, Said, Under, search_end};
+use crate::orders::{NoOrder, Said, TooLong, Under, search_end};
 use bgp_check::{Answer, check_end};
 use bgp_judge::{Tracker, Verdict};
 use bgp_open::Config;
@@ -19,7 +19,7 @@ use std::alloc::Allocator;
 
 /// In which order of an end's messages what is told of it is so.
 #[derive(Clone, Copy, Debug, PartialEq, Eq)]
-pub(crate) enum Order {
+pub enum Order {
     /// In the made one.
     Made,
     /// In another one, that is a yes. The made one isn't.
@@ -41,10 +41,14 @@ pub(crate) struct AnotherOrder<'a, A: Allocator> {
 pub(crate) enum Searched<'a, A: Allocator> {
     /// Nothing: that answer is told.
     Nothing,
+    /// Nothing, too: under these configurations the search is too long.
+    TooLong(TooLong),
     /// No order explains this sent message.
     NoOrder(NoOrder<'a>),
-    /// Some order explains all that was sent, and none is a yes.
+    /// Some order explains all that was sent, and none is a yes. The made one is a no.
     Unfinished(Under),
+    /// So it is, and the made one is unfinished, too.
+    AsMade(Under),
     /// Another order is a yes.
     Another(AnotherOrder<'a, A>),
 }
@@ -64,7 +68,7 @@ fn is_yes<A: Allocator>(answer: &Answer<A>) -> bool
 
 /// Whether it is judged with a no.
 fn is_no<A: Allocator>(answer: &Answer<A>) -> bool
-    ensures { IsTrue result → IsNo (answer_value answer.now) }
+    ensures { IsTrue result ↔ IsNo (answer_value answer.now) }
 {
     match answer {
         Answer::NotJudged(_) => false,
@@ -77,7 +81,7 @@ fn is_no<A: Allocator>(answer: &Answer<A>) -> bool
 
 /// Whether it is judged, and that is no yes.
 fn is_no_yes<A: Allocator>(answer: &Answer<A>) -> bool
-    ensures { IsTrue result → IsNoYes (answer_value answer.now) }
+    ensures { IsTrue result ↔ IsNoYes (answer_value answer.now) }
 {
     match answer {
         Answer::NotJudged(_) => false,
@@ -122,13 +126,15 @@ fn another_under<'a, A: Allocator + Copy, T: Tracker<A>>(
 
 /// Returns what is found over all orders of the end's messages, if this is answered of the made one:
 /// a yes of another, if the answer isn't a yes; of a no the first sent message that no order
-/// explains, or that some order explains all of them. Nothing is found, too, if the search is too
-/// long or memory is refused for it.
+/// explains, or that some order explains all of them and none is whole; that of an unfinished, too.
+/// Nothing is found if the search is too long or memory is refused for it. It is known to be too
+/// long under these configurations.
 pub(crate) fn search_orders<'a, A: Allocator + Copy, T: Tracker<A>>(
     alloc: A,
     viewed: &Viewed<'a>,
     framings: Framings,
     answer: &Answer<A>,
+    known: TooLong,
 ) -> Searched<'a, A>
     requires received { IsCovered viewed.now.connection.received }
     requires sent { IsCovered viewed.now.connection.sent }
@@ -139,7 +145,7 @@ pub(crate) fn search_orders<'a, A: Allocator + Copy, T: Tracker<A>>(
     if !is_no_yes(answer) {
         return Searched::Nothing;
     }
-    match search_end(alloc, viewed, framings) {
+    match search_end(alloc, viewed, framings, known) {
         Ok(Said::Whole(config)) => {
             match another_under::<A, T>(alloc, viewed, framings, &config) {
                 Some(another) => Searched::Another(another),
@@ -147,7 +153,14 @@ pub(crate) fn search_orders<'a, A: Allocator + Copy, T: Tracker<A>>(
             }
         }
         Ok(Said::NoOrder(found)) if is_no(answer) => Searched::NoOrder(found),
-        Ok(Said::Unfinished(under)) if is_no(answer) => Searched::Unfinished(under),
+        Ok(Said::Unfinished(its)) => {
+            if is_no(answer) {
+                Searched::Unfinished(its)
+            } else {
+                Searched::AsMade(its)
+            }
+        }
+        Ok(Said::TooLong(known)) => Searched::TooLong(known),
         Ok(_) | Err(_) => Searched::Nothing,
     }
 }

@@ -1,18 +1,20 @@
 //! `bgp check` of a recording.
 
-ghost use Rattle.std.specs.Prelude.{◌≡◌, ◌<◌, ◌^◌, List, Some};
+ghost use Rattle.std.specs.Prelude.{◌≡◌, ◌<◌, ◌^◌, [], List, Some};
 ghost use Rattle.packets.specs.Packet.{Recorded};
 ghost use Rattle.bgp_check_lines.specs.Lines.{PutsLines};
-ghost use Rattle.bgp_check_tool.specs.Checking.{ChecksRecording, PutsAll, PutsBlock, file_text};
+ghost use Rattle.bgp_check_tool.specs.Checking.{ChecksMarked, PutsAll, PutsBlock, file_text};
 ghost use Rattle.bgp_check_tool.specs.Checking.{cut_note, nothing_by, with_file};
 ghost use Rattle.bgp_check_tool.specs.Judging.{settings_by};
 ghost use Rattle.bgp_list.specs.Firsts.{AreApart, with_first};
 ghost use Rattle.bgp_import.specs.Listed.{CanBeTold, IsListed};
-ghost use Rattle.bgp_import.specs.Talks.{HoldsSome};
+ghost use Rattle.bgp_import.specs.Talks.{HoldsEach, HoldsSome};
+ghost use Rattle.bgp_import.specs.Wrapped.{AreCounted};
 
 use crate::blocks::put_block;
 use crate::connection::{Between, check_connection};
 use crate::counted::Counted;
+use crate::marks::Marks;
 use crate::nothing::{NothingJudged, put_nothing};
 use crate::options::CheckOptions;
 use arrayvec::ArrayVec;
@@ -53,12 +55,14 @@ fn put_listed<A: Allocator + Copy, T: Tracker<A>, W: Sink>(
     listed: &Listed<'_, A>,
     lines: &mut CheckLines<'_, A, W>,
     counted: &mut Counted,
+    marks: &mut Marks<A>,
 )
     requires told { CanBeTold listed.now }
     requires apart { AreApart counted.old.refusals.items }
     ensures puts { (packets : List Recorded) → IsListed options.now.port packets packet listed.now
         → PutsBlock options.now packets last_packet packet lines.old lines.new counted.old.tally
-        counted.new.tally counted.old.refusals.items counted.new.refusals.items }
+        counted.new.tally counted.old.refusals.items counted.new.refusals.items marks.old
+        marks.new }
     ensures apart { AreApart counted.new.refusals.items }
 {
     match *listed {
@@ -71,6 +75,7 @@ fn put_listed<A: Allocator + Copy, T: Tracker<A>, W: Sink>(
             let told = check_connection::<A, T>(alloc, &between, &talk.connections, opening);
             put_block(lines, &between.session, opening, &told, options.printing);
             counted.add_connection(&between.session, opening, &told);
+            marks.add_connection(&between.session, opening, options.printing, &told);
         }
         Listed::Refused(addresses, fault) => {
             let refusal = refused(fault, packet);
@@ -89,12 +94,14 @@ fn put_all<A: Allocator + Copy, T: Tracker<A>, W: Sink>(
     last_packet: u64,
     lines: &mut CheckLines<'_, A, W>,
     counted: &mut Counted,
+    marks: &mut Marks<A>,
 ) -> Option<Refusal>
     requires holds { (packets : List Recorded) × HoldsSome options.now.port packets talks.now }
     requires apart { AreApart counted.old.refusals.items }
     ensures puts { (packets : List Recorded) → HoldsSome options.now.port packets talks.now
         → PutsAll options.now packets talks.now last_packet lines.old lines.new counted.old.tally
-        counted.new.tally counted.old.refusals.items counted.new.refusals.items result }
+        counted.new.tally counted.old.refusals.items counted.new.refusals.items marks.old
+        marks.new result }
     ensures apart { AreApart counted.new.refusals.items }
 {
     let listed = match listed_in(alloc, talks) {
@@ -106,7 +113,17 @@ fn put_all<A: Allocator + Copy, T: Tracker<A>, W: Sink>(
         }
     };
     for (packet, one) in &listed {
-        put_listed::<A, T, W>(alloc, options, last_packet, *packet, one, lines, counted);
+        let packet = *packet;
+        put_listed::<A, T, W>(
+            alloc,
+            options,
+            last_packet,
+            packet,
+            one,
+            lines,
+            counted,
+            marks,
+        );
     }
     None
 }
@@ -186,31 +203,35 @@ fn settings_by(stopped: Option<Refusal>, settings: Settings) -> Settings
 }
 
 /// Reads the recording, and checks all that is listed of it: what
-/// [`check_recording`](crate::check_recording) is made of, on whose page its sentence stands.
+/// [`check_recording`](crate::check_recording) is made of, on whose page its sentence stands. Adds
+/// where the noes stand.
 pub(crate) fn check_recording<A: Allocator + Copy, T: Tracker<A>, R: Source, W: Sink>(
     alloc: A,
     options: &CheckOptions,
     source: &mut R,
     sink: &mut W,
+    talks: &mut Talks<A>,
+    marks: &mut Marks<A>,
 ) -> CheckedRecording
     requires source { R.failures source.old < 2 ^ 63 }
     requires sink { W.failures sink.old < 2 ^ 63 }
-    ensures { ChecksRecording R.gives R.has_ended W.takes R.failures W.failures options.now
+    requires empty { HoldsEach options.now.port [] talks.old }
+    requires none { AreCounted [] talks.old.wrapped }
+    ensures { ChecksMarked R.gives R.has_ended W.takes R.failures W.failures options.now
         source.old source.new sink.old sink.new result.status result.cut_short
-        result.refusals.items result.refusal result.nothing }
+        result.refusals.items result.refusal result.nothing talks.new marks.old marks.new }
 {
     let mut reader = Reader::new(alloc);
-    let mut talks = Talks::new(alloc, options.port);
-    let stopped = take_all(&mut reader, &mut talks, source).err();
+    let stopped = take_all(&mut reader, talks, source).err();
     let cut_short = cut_short_at(reader.number(), reader.is_cut_short(), stopped);
     let mut lines = CheckLines::new(options.form, alloc, sink);
     let mut counted = Counted::new();
-    let last_packet = reader.number();
+    let last = reader.number();
     let told = CheckOptions {
         settings: settings_by(stopped, options.settings),
         ..*options
     };
-    let lacking = put_all::<A, T, W>(alloc, &told, &talks, last_packet, &mut lines, &mut counted);
+    let lacking = put_all::<A, T, W>(alloc, &told, talks, last, &mut lines, &mut counted, marks);
     put_file(&mut lines, &mut counted, stopped);
     put_file(&mut lines, &mut counted, lacking);
     let quiet = options.printing.quiet;

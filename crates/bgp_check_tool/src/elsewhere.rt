@@ -1,19 +1,21 @@
 //! Where the no of the made order stands, if what is told stands elsewhere, and what is said of
 //! that.
 
-ghost use Rattle.std.specs.Prelude.{◌≡◌, IfOk, map};
+ghost use Rattle.std.specs.Prelude.{◌≡◌, IfOk, Some, map};
 ghost use Rattle.mrt.specs.Reader.{shown_of};
+ghost use Rattle.bgp_judge.specs.Verdict.{verdict_value};
 ghost use Rattle.bgp_check.specs.Answered.{answer_value};
 ghost use Rattle.bgp_recording.specs.Captured.{records_of};
-ghost use Rattle.bgp_check_tool.specs.Elsewhere.{IsFoundDeed, IsOther, in_made, in_none, no_count};
-ghost use Rattle.bgp_check_tool.specs.Elsewhere.{no_place, octets_if, place_unless};
+ghost use Rattle.bgp_check_tool.specs.About.{judged_value};
+ghost use Rattle.bgp_check_tool.specs.Elsewhere.{IsFoundDeed, IsOther, count_in, in_made, in_none};
+ghost use Rattle.bgp_check_tool.specs.Elsewhere.{no_count, no_place, octets_if, place_unless};
 ghost use Rattle.bgp_check_tool.specs.Told.{peer_end};
 
 use crate::ending::{Viewed, peer_end};
 use crate::making::Made;
 use crate::orders::NoOrder;
 use crate::place::place_at;
-use bgp_check::Answer;
+use bgp_check::{Answer, Judged};
 use bgp_check_text::{sent_deed, sent_form};
 use bgp_instead::is_message_at;
 use bgp_judge::Verdict;
@@ -22,15 +24,22 @@ use bgp_why::Place;
 use std::alloc::{AllocError, Allocator};
 
 /// Returns after how many records a no stands.
+pub(crate) fn count_in<A: Allocator>(verdict: &Verdict<A>) -> Option<u64>
+    ensures { result ≡ count_in (verdict_value verdict.now) }
+{
+    match verdict {
+        Verdict::No(count) => Some(*count),
+        Verdict::Yes(_) | Verdict::Unfinished => None,
+    }
+}
+
+/// Returns the same, where an end may not be judged.
 fn no_count<A: Allocator>(answer: &Answer<A>) -> Option<u64>
     ensures { result ≡ no_count (answer_value answer.now) }
 {
     match answer {
         Answer::NotJudged(_) => None,
-        Answer::Judged(judged) => match &judged.verdict {
-            Verdict::No(count) => Some(*count),
-            Verdict::Yes(_) | Verdict::Unfinished => None,
-        },
+        Answer::Judged(judged) => count_in(&judged.verdict),
     }
 }
 
@@ -54,18 +63,16 @@ fn place_unless(entries: &[Entry<'_>], found: &NoOrder<'_>, count: usize) -> Opt
     Some(place_at(entries, count))
 }
 
-/// Returns where a no stands, if no order explains another message than its record's.
+/// Returns where a no of the made order stands, if no order explains another message than its
+/// record's.
 pub(crate) fn in_made<A: Allocator>(
     entries: &[Entry<'_>],
-    found: &Option<NoOrder<'_>>,
-    answer: &Answer<A>,
+    found: &NoOrder<'_>,
+    about: &Judged<A>,
 ) -> Option<Place>
-    ensures { result ≡ in_made entries.now found.now (answer_value answer.now) }
+    ensures { result ≡ in_made entries.now (Some found.now) (judged_value about.now) }
 {
-    let Some(found) = found else {
-        return None;
-    };
-    match no_count(answer) {
+    match count_in(&about.verdict) {
         Some(count) => place_unless(entries, found, count as usize),
         None => None,
     }
@@ -115,17 +122,18 @@ pub(crate) fn other_deed<A: Allocator + Copy>(
     alloc: A,
     viewed: &Viewed<'_>,
     made: &Made<'_, A>,
-    found: &Option<NoOrder<'_>>,
+    found: &NoOrder<'_>,
     in_made: Option<Place>,
 ) -> Result<Option<Vec<u8, A>>, AllocError>
     requires records { map shown_of made.now.recording.records.items
         ≡ records_of made.now.recording.entries.items }
     ensures { IfOk result (λ other. IsOther viewed.now.session made.now.framings.sent.limit
         (peer_end viewed.now.session viewed.now.connection)
-        (records_of made.now.recording.entries.items) found.now in_made (octets_if other)) }
+        (records_of made.now.recording.entries.items) (Some found.now) in_made
+        (octets_if other)) }
 {
-    match (found, in_made) {
-        (Some(found), Some(_)) => Ok(Some(found_deed(alloc, viewed, made, found)?)),
-        (Some(_), None) | (None, _) => Ok(None),
+    match in_made {
+        Some(_) => Ok(Some(found_deed(alloc, viewed, made, found)?)),
+        None => Ok(None),
     }
 }

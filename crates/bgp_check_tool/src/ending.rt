@@ -1,10 +1,14 @@
 //! What is told of one of a connection's two ends.
 
-ghost use Rattle.std.specs.Prelude.{◌≡◌, true, None, IfOk, map, option_map};
+ghost use Rattle.std.specs.Prelude.{◌≡◌, true, false, ℕ, List, Option, None, Some, IfOk};
+ghost use Rattle.std.specs.Prelude.{map, option_map};
 ghost use Rattle.mrt.specs.Reader.{shown_of};
-ghost use Rattle.bgp_check.specs.Answered.{IsAnswerTo, JudgedAs, answer_value};
+ghost use Rattle.bgp_check.specs.Answered.{AnswerValue, IsAnswerTo, IsWidestFor, JudgedAs};
+ghost use Rattle.bgp_check.specs.Answered.{answer_value, number_of};
 ghost use Rattle.bgp_check.specs.WatchedEnd.{IsWatchedFor};
-ghost use Rattle.bgp_judge.specs.Verdict.{Unfinished};
+ghost use Rattle.bgp_judge.specs.Verdict.{HasVerdict, Unfinished, verdict_value};
+ghost use Rattle.bgp_orders.specs.WholeWays.{AreOfAWayOver};
+ghost use Rattle.bgp_parts.specs.Opens.{HasOwnOpen};
 ghost use Rattle.bgp_check_text.specs.AsNumber.{HasAsNumber};
 ghost use Rattle.bgp_check_text.specs.Reason.{IsReasonTo, deed_text, lines_text};
 ghost use Rattle.bgp_check_text.specs.Places.{shown_places};
@@ -12,29 +16,37 @@ ghost use Rattle.bgp_import.specs.Captures.{put_off};
 ghost use Rattle.bgp_recording.specs.Captured.{records_of};
 ghost use Rattle.bgp_recording.specs.Gathered.{IsClocked, IsCovered};
 ghost use Rattle.bgp_recording.specs.Recorded.{IsRecordedInOrder};
+ghost use Rattle.bgp_recording.specs.declared.entry.Entry.{Entry as TheEntry};
+ghost use Rattle.bgp_recording.specs.declared.framing.Unshown.{Unshown as NotShown};
 ghost use Rattle.bgp_check_text.specs.Reached.{IsReached, reached_value};
+ghost use Rattle.bgp_check_tool.specs.declared.another.Order.TheVariants.{All as OfAll};
+ghost use Rattle.bgp_check_tool.specs.declared.another.Order.TheVariants.{Another as OfAnother};
 ghost use Rattle.bgp_check_tool.specs.declared.another.Order.TheVariants.{Made as OfMade};
-ghost use Rattle.bgp_check_tool.specs.Another.{number_in};
-ghost use Rattle.bgp_check_tool.specs.Elsewhere.{IsOther, in_made, no_place, octets_if};
+ghost use Rattle.bgp_check_tool.specs.About.{IsNoOf, judged_value};
+ghost use Rattle.bgp_check_tool.specs.Another.{IsNo, IsNoYes, IsYes, number_in};
+ghost use Rattle.bgp_check_tool.specs.Elsewhere.{IsOther, in_made, octets_if};
 ghost use Rattle.bgp_check_tool.specs.Judging.{AreOptionsTo};
 ghost use Rattle.bgp_check_tool.specs.Late.{IsLate};
 ghost use Rattle.bgp_check_tool.specs.Made.{IsMade};
+ghost use Rattle.bgp_check_tool.specs.Orders.{IsKnown, IsUnexplained, IsUnfinished};
 ghost use Rattle.bgp_check_tool.specs.Place.{second_at};
 ghost use Rattle.bgp_check_tool.specs.Told.{IsTold, peer_end, place_of, told_value};
 ghost use Rattle.bgp_watch.specs.Front.{front_value};
 
+use crate::about::no_under;
 use crate::another::{AnotherOrder, Order, Searched, search_orders};
 use crate::elsewhere::{in_made, no_place, other_deed};
 use crate::instead::instead_of;
-use crate::judging::options_to;
+use crate::judging::{options_for, options_to};
 use crate::late::{Late, late_of};
 use crate::making::Made;
 use crate::options::CheckOptions;
-use crate::orders::{NoOrder, Under};
+use crate::orders::{NoOrder, TooLong, Under};
 use crate::place::{last_place, place_at, second_at, sent_place};
-use bgp_check::{Answer, Judged, watch_end};
+use bgp_check::{Answer, Judged, WatchedEnd, watch_end};
 use bgp_check_text::{
-    Asked, JudgeOptions, Places, Reached, Reason, reached_by, reason_of, sent_as_number,
+    Asked, JudgeOptions, Places, Reached, Reason, reached_by, reason_of, reason_under,
+    sent_as_number,
 };
 use bgp_import::notes_on;
 use bgp_judge::{Tracker, Verdict};
@@ -71,6 +83,8 @@ pub(crate) struct Told<'a, A: Allocator> {
     pub(crate) answer: Answer<A>,
     /// In which order that is so.
     pub(crate) order: Order,
+    /// Whether it is known to be unfinished over all orders.
+    pub(crate) over_all: bool,
     /// The first sent message that no order explains, of a no, if one is known.
     pub(crate) found: Option<NoOrder<'a>>,
     /// Where a no stands: at that message, or else at the impossible record. Of another verdict
@@ -122,6 +136,7 @@ fn place_of<A: Allocator>(
 #[derive(Drop)]
 struct Beside<'a, A: Allocator> {
     order: Order,
+    over_all: bool,
     found: Option<NoOrder<'a>>,
     in_made: Option<Place>,
     other: Option<Vec<u8, A>>,
@@ -130,10 +145,32 @@ struct Beside<'a, A: Allocator> {
 }
 
 impl<'a, A: Allocator + Copy> Beside<'a, A> {
-    /// Beside an answer of another order than the made one, or over all of them, with where the no
-    /// of the made one stands, and what the answer becomes.
-    fn of_others(order: Order, in_made: Option<Place>, late: Option<Late>) -> Beside<'a, A>
-        ensures order { result.order ≡ order }
+    /// Beside a yes of another order than the made one, which isn't.
+    fn of_another() -> Beside<'a, A>
+        ensures order { result.order ≡ OfAnother }
+        ensures over_all { result.over_all ≡ false }
+        ensures found { result.found ≡ None }
+        ensures in_made { result.in_made ≡ None }
+        ensures other { octets_if result.other ≡ None }
+        ensures late { result.late ≡ None }
+        ensures judge { result.judge ≡ None }
+    {
+        Beside {
+            order: Order::Another,
+            over_all: false,
+            found: None,
+            in_made: None,
+            other: None,
+            late: None,
+            judge: None,
+        }
+    }
+
+    /// Beside what is unfinished over all orders, with where the no of the made one stands, and
+    /// what the answer becomes.
+    fn of_all(in_made: Option<Place>, late: Option<Late>) -> Beside<'a, A>
+        ensures order { result.order ≡ OfAll }
+        ensures over_all { result.over_all ≡ true }
         ensures found { result.found ≡ None }
         ensures in_made { result.in_made ≡ in_made }
         ensures other { octets_if result.other ≡ None }
@@ -141,7 +178,8 @@ impl<'a, A: Allocator + Copy> Beside<'a, A> {
         ensures judge { result.judge ≡ None }
     {
         Beside {
-            order,
+            order: Order::All,
+            over_all: true,
             found: None,
             in_made,
             other: None,
@@ -150,27 +188,25 @@ impl<'a, A: Allocator + Copy> Beside<'a, A> {
         }
     }
 
-    /// Beside this answer on the made order, of which this is the first sent message that no order
-    /// explains, if one is known.
+    /// Beside this answer on the made order, and whether it is known to be unfinished over all. The
+    /// search is known to be too long under these configurations.
     fn of_made<T: Tracker<A>>(
         alloc: A,
         viewed: &Viewed<'_>,
         made: &Made<'_, A>,
         answer: &Answer<A>,
-        found: Option<NoOrder<'a>>,
+        over_all: bool,
+        known: TooLong,
     ) -> Result<Beside<'a, A>, AllocError>
         requires received { IsCovered viewed.now.connection.received }
         requires sent { IsCovered viewed.now.connection.sent }
         requires records { map shown_of made.now.recording.records.items
             ≡ records_of made.now.recording.entries.items }
         ensures order { IfOk result (λ beside. beside.order ≡ OfMade) }
-        ensures found { IfOk result (λ beside. beside.found ≡ found.entry) }
-        ensures in_made { IfOk result (λ beside. beside.in_made ≡ in_made
-            made.now.recording.entries.items found.entry (answer_value answer.now)) }
-        ensures other { IfOk result (λ beside. IsOther viewed.now.session
-            made.now.framings.sent.limit (peer_end viewed.now.session viewed.now.connection)
-            (records_of made.now.recording.entries.items) beside.found beside.in_made
-            (octets_if beside.other)) }
+        ensures over_all { IfOk result (λ beside. beside.over_all ≡ over_all) }
+        ensures found { IfOk result (λ beside. beside.found ≡ None) }
+        ensures in_made { IfOk result (λ beside. beside.in_made ≡ None) }
+        ensures other { IfOk result (λ beside. octets_if beside.other ≡ None) }
         ensures late { IfOk result (λ beside. IsClocked viewed.now.connection → IsLate
             viewed.now.session viewed.now.connection (answer_value answer.now) beside.late) }
         ensures judge { IfOk result (λ beside. IsClocked viewed.now.connection
@@ -181,16 +217,61 @@ impl<'a, A: Allocator + Copy> Beside<'a, A> {
             made.now.recording.entries.items made.now.recording.received made.now.recording.sent
             viewed.now.options.settings (answer_value answer.now) beside.judge) }
     {
+        Ok(Beside {
+            order: Order::Made,
+            over_all,
+            found: None,
+            in_made: None,
+            other: None,
+            late: late_of::<A, T>(alloc, viewed, answer, known)?,
+            judge: options_to(alloc, viewed, made, answer)?,
+        })
+    }
+
+    /// Beside this answer on the made order, where no order explains a sent message, and the reason
+    /// is about that verdict.
+    fn of_no_order<T: Tracker<A>>(
+        alloc: A,
+        viewed: &Viewed<'_>,
+        made: &Made<'_, A>,
+        answer: &Answer<A>,
+        about: &Judged<A>,
+        found: NoOrder<'a>,
+    ) -> Result<Beside<'a, A>, AllocError>
+        requires received { IsCovered viewed.now.connection.received }
+        requires sent { IsCovered viewed.now.connection.sent }
+        requires records { map shown_of made.now.recording.records.items
+            ≡ records_of made.now.recording.entries.items }
+        ensures order { IfOk result (λ beside. beside.order ≡ OfMade) }
+        ensures over_all { IfOk result (λ beside. beside.over_all ≡ false) }
+        ensures found { IfOk result (λ beside. beside.found ≡ Some found.entry) }
+        ensures in_made { IfOk result (λ beside. beside.in_made ≡ in_made
+            made.now.recording.entries.items (Some found.entry) (judged_value about.now)) }
+        ensures other { IfOk result (λ beside. IsOther viewed.now.session
+            made.now.framings.sent.limit (peer_end viewed.now.session viewed.now.connection)
+            (records_of made.now.recording.entries.items) (Some found.entry) beside.in_made
+            (octets_if beside.other)) }
+        ensures late { IfOk result (λ beside. IsClocked viewed.now.connection → IsLate
+            viewed.now.session viewed.now.connection (answer_value answer.now) beside.late) }
+        ensures judge { IfOk result (λ beside. IsClocked viewed.now.connection
+            → IsRecordedInOrder made.now.framings viewed.now.options.within
+            viewed.now.connection made.now.recording.entries.items made.now.recording.received
+            made.now.recording.sent
+            → AreOptionsTo viewed.now.options.within viewed.now.asked viewed.now.connection
+            made.now.recording.entries.items made.now.recording.received made.now.recording.sent
+            viewed.now.options.settings (judged_value about.now) beside.judge) }
+    {
         let entries = made.recording.entries.as_slice();
-        let in_made = in_made(entries, &found, answer);
+        let in_made = in_made(entries, &found, about);
         let other = other_deed(alloc, viewed, made, &found, in_made)?;
         Ok(Beside {
             order: Order::Made,
-            found,
+            over_all: false,
+            found: Some(found),
             in_made,
             other,
-            late: late_of::<A, T>(alloc, viewed, answer)?,
-            judge: options_to(alloc, viewed, made, answer)?,
+            late: late_of::<A, T>(alloc, viewed, answer, TooLong::unknown())?,
+            judge: options_for(alloc, viewed, made, about)?,
         })
     }
 }
@@ -236,6 +317,42 @@ fn reason_on<A: Allocator + Copy, T: Tracker<A>>(
     Ok(reason)
 }
 
+/// Why these records have this verdict under its configuration, with this of other orders.
+fn reason_about<A: Allocator + Copy, T: Tracker<A>>(
+    alloc: A,
+    viewed: &Viewed<'_>,
+    framings: Framings,
+    recording: &Recording<'_, A>,
+    instead: OtherOrders,
+    about: &Judged<A>,
+) -> Result<Reason<A>, AllocError>
+    requires records { map shown_of recording.now.records.items
+        ≡ records_of recording.now.entries.items }
+    requires number { (own : Option (List ℕ))
+        → HasOwnOpen (records_of recording.now.entries.items) own
+        → about.now.as_number ≡ number_of own }
+    requires holds { HasVerdict about.now.under (records_of recording.now.entries.items)
+        (verdict_value about.now.verdict) }
+    ensures { IsWidestFor viewed.now.session (records_of recording.now.entries.items)
+        about.now.peer_as about.now.under
+        → IfOk result (λ reason. IsReasonTo viewed.now.session framings.sent.limit
+        (second_at recording.now.entries.items 0) true
+        (peer_end viewed.now.session viewed.now.connection)
+        (shown_places recording.now.entries.items) instead
+        (records_of recording.now.entries.items) (judged_value about.now) (deed_text reason)
+        (lines_text reason)) }
+{
+    let _viewed = *viewed;
+    let records = recording.records.as_slice();
+    let entries = recording.entries.as_slice();
+    let first = second_at(entries, 0);
+    let places = Places::Shown(entries);
+    let peer = peer_end(&viewed.session, &viewed.connection);
+    let sent = framings.sent.limit;
+    let reason = reason_under::<A, T>(alloc, sent, first, &peer, places, instead, records, about)?;
+    Ok(reason)
+}
+
 /// What is told of an end with this answer, of these records, for this reason; its session came so
 /// far.
 fn told_of<'a, A: Allocator + Copy>(
@@ -261,6 +378,7 @@ fn told_of<'a, A: Allocator + Copy>(
         × (lines_text result.reason ≡ lines_text reason) }
     ensures unshown { (result.received ≡ recording.now.received)
         × (result.sent ≡ recording.now.sent) }
+    ensures over_all { result.over_all ≡ beside.entry.over_all }
     ensures beside { (result.order ≡ beside.entry.order) × (result.found ≡ beside.entry.found)
         × (result.in_made ≡ beside.entry.in_made)
         × (octets_if result.other ≡ octets_if beside.entry.other)
@@ -272,6 +390,7 @@ fn told_of<'a, A: Allocator + Copy>(
         place: place_of(&answer, &beside.found, &recording.entries),
         answer,
         order: beside.order,
+        over_all: beside.over_all,
         found: beside.found,
         in_made: beside.in_made,
         other: beside.other,
@@ -327,6 +446,187 @@ pub(crate) fn unfinished<A: Allocator>(as_number: Option<u32>, its: Under) -> An
     })
 }
 
+/// What is told of an end in the made order, of which this is answered, and whether it is known to
+/// be unfinished over all orders. The search over them is known to be too long under these
+/// configurations.
+fn told_as_made<'a, A: Allocator + Copy, T: Tracker<A>>(
+    alloc: A,
+    viewed: &Viewed<'a>,
+    made: &Made<'_, A>,
+    watched: WatchedEnd<A>,
+    over_all: bool,
+    known: TooLong,
+) -> Result<Told<'a, A>, AllocError>
+    requires received { IsCovered viewed.now.connection.received }
+    requires sent { IsCovered viewed.now.connection.sent }
+    requires records { map shown_of made.now.recording.records.items
+        ≡ records_of made.now.recording.entries.items }
+    requires answers { IsAnswerTo viewed.now.session
+        (records_of made.now.recording.entries.items) (answer_value watched.answer) }
+    requires before { IsWatchedFor (records_of made.now.recording.entries.items)
+        (answer_value watched.answer) (option_map front_value watched.before) }
+    ensures { IfOk result (λ told. IsClocked viewed.now.connection
+        → IsMade viewed.now.options.within viewed.now.connection made.now.framings
+        made.now.recording.entries.items made.now.recording.received made.now.recording.sent
+        → IsKnown viewed.now.session viewed.now.options.within made.now.framings
+        viewed.now.connection over_all
+        → IsTold viewed.now.options viewed.now.asked viewed.now.end viewed.now.session
+        viewed.now.connection (told_value told)) }
+{
+    let (framings, recording) = (made.framings, &made.recording);
+    let WatchedEnd { answer, before } = watched;
+    let instead = OtherOrders::Unasked;
+    let reached = reached_on::<A, T>(alloc, recording, &answer, before)?;
+    let reason = reason_on::<A, T>(alloc, viewed, framings, recording, instead, &answer)?;
+    let beside = Beside::of_made::<T>(alloc, viewed, made, &answer, over_all, known)?;
+    Ok(told_of(viewed, recording, answer, reached, reason, beside))
+}
+
+/// What is told of an end of which this no is answered in the made order, and a sent message is
+/// found that no order explains. The reason is about this no of the made order under the
+/// configuration under which that message comes last.
+fn told_of_no_order<'a, A: Allocator + Copy, T: Tracker<A>>(
+    alloc: A,
+    viewed: &Viewed<'a>,
+    made: &Made<'_, A>,
+    watched: WatchedEnd<A>,
+    about: &Judged<A>,
+    found: NoOrder<'a>,
+) -> Result<Told<'a, A>, AllocError>
+    requires received { IsCovered viewed.now.connection.received }
+    requires sent { IsCovered viewed.now.connection.sent }
+    requires records { map shown_of made.now.recording.records.items
+        ≡ records_of made.now.recording.entries.items }
+    requires answers { IsAnswerTo viewed.now.session
+        (records_of made.now.recording.entries.items) (answer_value watched.answer) }
+    requires before { IsWatchedFor (records_of made.now.recording.entries.items)
+        (answer_value watched.answer) (option_map front_value watched.before) }
+    requires no { IsNo (answer_value watched.answer) }
+    requires about { IsNoOf (records_of made.now.recording.entries.items)
+        (number_in (answer_value watched.answer)) found (judged_value about.now) }
+    ensures { IfOk result (λ told. IsClocked viewed.now.connection
+        → IsMade viewed.now.options.within viewed.now.connection made.now.framings
+        made.now.recording.entries.items made.now.recording.received made.now.recording.sent
+        → IsUnexplained viewed.now.session viewed.now.options.within made.now.framings
+        viewed.now.connection found.entry
+        → IsTold viewed.now.options viewed.now.asked viewed.now.end viewed.now.session
+        viewed.now.connection (told_value told)) }
+{
+    let (framings, recording) = (made.framings, &made.recording);
+    let WatchedEnd { answer, before } = watched;
+    let instead = instead_of(alloc, viewed, made, about, &found);
+    let reached = reached_on::<A, T>(alloc, recording, &answer, before)?;
+    let reason = reason_about::<A, T>(alloc, viewed, framings, recording, instead, about)?;
+    let beside = Beside::of_no_order::<T>(alloc, viewed, made, &answer, about, found)?;
+    Ok(told_of(viewed, recording, answer, reached, reason, beside))
+}
+
+/// The same, if the records of the made order have such a no; else what is told in that order.
+fn told_of_found<'a, A: Allocator + Copy, T: Tracker<A>>(
+    alloc: A,
+    viewed: &Viewed<'a>,
+    made: &Made<'_, A>,
+    watched: WatchedEnd<A>,
+    found: NoOrder<'a>,
+) -> Result<Told<'a, A>, AllocError>
+    requires received { IsCovered viewed.now.connection.received }
+    requires sent { IsCovered viewed.now.connection.sent }
+    requires records { map shown_of made.now.recording.records.items
+        ≡ records_of made.now.recording.entries.items }
+    requires answers { IsAnswerTo viewed.now.session
+        (records_of made.now.recording.entries.items) (answer_value watched.answer) }
+    requires before { IsWatchedFor (records_of made.now.recording.entries.items)
+        (answer_value watched.answer) (option_map front_value watched.before) }
+    requires no { IsNo (answer_value watched.answer) }
+    ensures { IfOk result (λ told. IsClocked viewed.now.connection
+        → IsMade viewed.now.options.within viewed.now.connection made.now.framings
+        made.now.recording.entries.items made.now.recording.received made.now.recording.sent
+        → IsUnexplained viewed.now.session viewed.now.options.within made.now.framings
+        viewed.now.connection found.entry
+        → IsTold viewed.now.options viewed.now.asked viewed.now.end viewed.now.session
+        viewed.now.connection (told_value told)) }
+{
+    let number = number_in(&watched.answer);
+    match no_under::<A, T>(alloc, &made.recording, number, &found)? {
+        Some(about) => { told_of_no_order::<A, T>(alloc, viewed, made, watched, &about, found) }
+        None => { told_as_made::<A, T>(alloc, viewed, made, watched, false, TooLong::unknown()) }
+    }
+}
+
+/// What is told of an end of which this no is answered in the made order, where some order explains
+/// all that it sent, under this configuration, and none is whole.
+fn told_over_all<'a, A: Allocator + Copy, T: Tracker<A>>(
+    alloc: A,
+    viewed: &Viewed<'a>,
+    made: &Made<'_, A>,
+    answer: &Answer<A>,
+    its: Under,
+) -> Result<Told<'a, A>, AllocError>
+    requires received { IsCovered viewed.now.connection.received }
+    requires sent { IsCovered viewed.now.connection.sent }
+    requires records { map shown_of made.now.recording.records.items
+        ≡ records_of made.now.recording.entries.items }
+    requires answers { IsAnswerTo viewed.now.session
+        (records_of made.now.recording.entries.items) (answer_value answer.now) }
+    requires no { IsNo (answer_value answer.now) }
+    ensures { IfOk result (λ told. IsClocked viewed.now.connection
+        → IsMade viewed.now.options.within viewed.now.connection made.now.framings
+        made.now.recording.entries.items made.now.recording.received made.now.recording.sent
+        → IsUnfinished viewed.now.session viewed.now.options.within made.now.framings
+        viewed.now.connection its.peer_as its.under
+        → IsTold viewed.now.options viewed.now.asked viewed.now.end viewed.now.session
+        viewed.now.connection (told_value told)) }
+{
+    let (framings, recording) = (made.framings, &made.recording);
+    let instead = OtherOrders::Unasked;
+    let reason = reason_on::<A, T>(alloc, viewed, framings, recording, instead, answer)?;
+    let in_made = no_place(recording.entries.as_slice(), answer);
+    let answer = unfinished(number_in(answer), its);
+    let reached = reached_on::<A, T>(alloc, recording, &answer, None)?;
+    let late = late_of::<A, T>(alloc, viewed, &answer, TooLong::unknown())?;
+    let beside = Beside::of_all(in_made, late);
+    Ok(told_of(viewed, recording, answer, reached, reason, beside))
+}
+
+/// What is told of an end of which this is answered in another order, if that is a yes, and the
+/// made one isn't.
+fn told_of_another<'a, A: Allocator + Copy, T: Tracker<A>>(
+    alloc: A,
+    viewed: &Viewed<'a>,
+    framings: Framings,
+    another: AnotherOrder<'a, A>,
+) -> Result<Told<'a, A>, AllocError>
+    requires records { map shown_of another.recording.records.items
+        ≡ records_of another.recording.entries.items }
+    requires answers { IsAnswerTo viewed.now.session
+        (records_of another.recording.entries.items) (answer_value another.answer) }
+    requires yes { IsYes (answer_value another.answer) }
+    ensures { IfOk result (λ told. (made_entries : List TheEntry)
+        (made_received made_sent : NotShown) (made_answer : AnswerValue)
+        → IsMade viewed.now.options.within viewed.now.connection framings made_entries
+        made_received made_sent
+        → IsAnswerTo viewed.now.session (records_of made_entries) made_answer
+        → IsNoYes made_answer
+        → AreOfAWayOver framings viewed.now.options.within viewed.now.connection
+        another.entry.recording.entries.items another.entry.recording.received
+        another.entry.recording.sent
+        → IsTold viewed.now.options viewed.now.asked viewed.now.end viewed.now.session
+        viewed.now.connection (told_value told)) }
+{
+    let AnotherOrder { recording, answer } = another;
+    let instead = OtherOrders::Unasked;
+    let reached = reached_on::<A, T>(alloc, &recording, &answer, None)?;
+    let reason = reason_on::<A, T>(alloc, viewed, framings, &recording, instead, &answer)?;
+    Ok(told_of(
+        viewed,
+        &recording,
+        answer,
+        reached,
+        reason,
+        Beside::of_another(),
+    ))
+}
+
 /// What is told of an end of whose connection these records were made: of another order that the
 /// packets allow, if that is a yes and the made one isn't; that it is unfinished over all orders, if
 /// the made one is a no; else of the made one.
@@ -345,42 +645,21 @@ pub(crate) fn told_by<'a, A: Allocator + Copy, T: Tracker<A>>(
         → IsTold viewed.now.options viewed.now.asked viewed.now.end viewed.now.session
         viewed.now.connection (told_value told)) }
 {
-    let (framings, recording) = (made.framings, &made.recording);
-    let records = recording.records.as_slice();
-    let entries = recording.entries.as_slice();
+    let records = made.recording.records.as_slice();
     let watched = watch_end::<A, T>(alloc, &viewed.session, records)?;
-    let answer = watched.answer;
-    let before = watched.before;
-    let unasked = OtherOrders::Unasked;
-    match search_orders::<A, T>(alloc, viewed, framings, &answer) {
-        Searched::Nothing => {
-            let reached = reached_on::<A, T>(alloc, recording, &answer, before)?;
-            let reason = reason_on::<A, T>(alloc, viewed, framings, recording, unasked, &answer)?;
-            let beside = Beside::of_made::<T>(alloc, viewed, made, &answer, None)?;
-            Ok(told_of(viewed, recording, answer, reached, reason, beside))
+    let unknown = TooLong::unknown();
+    match search_orders::<A, T>(alloc, viewed, made.framings, &watched.answer, unknown) {
+        Searched::Nothing => { told_as_made::<A, T>(alloc, viewed, made, watched, false, unknown) }
+        Searched::TooLong(known) => {
+            told_as_made::<A, T>(alloc, viewed, made, watched, false, known)
         }
-        Searched::NoOrder(found) => {
-            let instead = instead_of(alloc, viewed, made, &answer, &found);
-            let reached = reached_on::<A, T>(alloc, recording, &answer, before)?;
-            let reason = reason_on::<A, T>(alloc, viewed, framings, recording, instead, &answer)?;
-            let beside = Beside::of_made::<T>(alloc, viewed, made, &answer, Some(found))?;
-            Ok(told_of(viewed, recording, answer, reached, reason, beside))
-        }
+        Searched::AsMade(_) => { told_as_made::<A, T>(alloc, viewed, made, watched, true, unknown) }
+        Searched::NoOrder(found) => { told_of_found::<A, T>(alloc, viewed, made, watched, found) }
         Searched::Unfinished(its) => {
-            let reason = reason_on::<A, T>(alloc, viewed, framings, recording, unasked, &answer)?;
-            let in_made = no_place(entries, &answer);
-            let answer = unfinished(number_in(&answer), its);
-            let reached = reached_on::<A, T>(alloc, recording, &answer, None)?;
-            let late = late_of::<A, T>(alloc, viewed, &answer)?;
-            let beside = Beside::of_others(Order::All, in_made, late);
-            Ok(told_of(viewed, recording, answer, reached, reason, beside))
+            told_over_all::<A, T>(alloc, viewed, made, &watched.answer, its)
         }
         Searched::Another(another) => {
-            let AnotherOrder { recording, answer } = another;
-            let reached = reached_on::<A, T>(alloc, &recording, &answer, None)?;
-            let reason = reason_on::<A, T>(alloc, viewed, framings, &recording, unasked, &answer)?;
-            let beside = Beside::of_others(Order::Another, None, None);
-            Ok(told_of(viewed, &recording, answer, reached, reason, beside))
+            told_of_another::<A, T>(alloc, viewed, made.framings, another)
         }
     }
 }

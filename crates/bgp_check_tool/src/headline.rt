@@ -1,14 +1,18 @@
 //! The page to show: what checking a recording promises.
 
-ghost use Rattle.std.specs.Prelude.{◌<◌, ◌^◌};
-ghost use Rattle.bgp_check_tool.specs.Checking.{ChecksRecording};
+ghost use Rattle.std.specs.Prelude.{◌<◌, ◌^◌, []};
+ghost use Rattle.bgp_import.specs.Talks.{HoldsEach};
+ghost use Rattle.bgp_import.specs.Wrapped.{AreCounted};
+ghost use Rattle.bgp_check_tool.specs.Checking.{ChecksMarked, ChecksRecording};
 ghost use Rattle.bgp_check_tool.specs.Printed.{NoesAreTrue, PrintsTrue, ToldVerdictIsOverAll};
 ghost use Rattle.bgp_check_tool.specs.Printed.{UnfinishedAreTrue, YesesAreTrue};
 
 use crate::checking::{self, CheckedRecording};
 use crate::laws::{no_order_has_a_run, no_order_is_whole};
+use crate::marks::Marks;
 use crate::options::CheckOptions;
 use bgp_check::{a_verdict_holds_under_its_configuration, no_configuration_explains_a_no};
+use bgp_import::Talks;
 use bgp_judge::Tracker;
 use mrt::{Sink, Source};
 use std::alloc::Allocator;
@@ -35,11 +39,13 @@ use std::alloc::Allocator;
 /// that has one in Established; if the end refused an UPDATE, of the records before that UPDATE.
 /// That is the clause `yes`.
 ///
-/// If they begin with `unfinished after packet P`, packet P shows the last record, no run
-/// under such a configuration shows just the end's records in the order that is made, and some run
-/// shows more. Or no run shows just those of any order that the packets allow, and in one of them
-/// some run explains all that the end sent: then a note says so. That is the clause `unfinished`.
-/// All that is printed is tied to the packets, so that no other line passes for one of these.
+/// If they begin with `unfinished after packet P`, and no note says that this is one possible
+/// order, packet P shows the last record, no run under such a configuration shows just the end's
+/// records in any order that the packets allow, and in one of these some run explains all that the
+/// end sent. Another note says so if the order that is made is a no. If the note is there, no such
+/// run shows just the records in the order that is made, and some run shows more. That is the
+/// clause `unfinished`. All that is printed is tied to the packets, so that no other line passes
+/// for one of these.
 ///
 /// It writes a line for each connection, in the order of their first packets. After it come the
 /// reports on both ends, first on the one that opened the connection: the verdict; for a yes each
@@ -83,11 +89,40 @@ pub fn check_recording<A: Allocator + Copy, T: Tracker<A>, R: Source, W: Sink>(
         source.old source.new sink.old sink.new result.status result.cut_short
         result.refusals.items result.refusal result.nothing }
 {
+    let mut talks = Talks::new(alloc, options.port);
+    let mut marks = Marks::new(alloc);
+    check_marking::<A, T, R, W>(alloc, options, source, sink, &mut talks, &mut marks)
+}
+
+/// Checks a recording as [`check_recording`] does, holds its connections in `talks`, which holds
+/// none before, and adds to `marks` where the no of each end stands whose answer is printed.
+pub fn check_marking<A: Allocator + Copy, T: Tracker<A>, R: Source, W: Sink>(
+    alloc: A,
+    options: &CheckOptions,
+    source: &mut R,
+    sink: &mut W,
+    talks: &mut Talks<A>,
+    marks: &mut Marks<A>,
+) -> CheckedRecording
+    requires source { R.failures source.old < 2 ^ 63 }
+    requires sink { W.failures sink.old < 2 ^ 63 }
+    requires empty { HoldsEach options.now.port [] talks.old }
+    requires none { AreCounted [] talks.old.wrapped }
+    ensures no { PrintsTrue NoesAreTrue R.gives R.has_ended W.takes W.failures options.now
+        source.old source.new sink.old sink.new result.status result.cut_short }
+    ensures yes { PrintsTrue YesesAreTrue R.gives R.has_ended W.takes W.failures options.now
+        source.old source.new sink.old sink.new result.status result.cut_short }
+    ensures unfinished { PrintsTrue UnfinishedAreTrue R.gives R.has_ended W.takes W.failures
+        options.now source.old source.new sink.old sink.new result.status result.cut_short }
+    ensures all { ChecksMarked R.gives R.has_ended W.takes R.failures W.failures options.now
+        source.old source.new sink.old sink.new result.status result.cut_short
+        result.refusals.items result.refusal result.nothing talks.new marks.old marks.new }
+{
     no_configuration_explains_a_no();
     a_verdict_holds_under_its_configuration();
     no_order_has_a_run();
     no_order_is_whole();
-    checking::check_recording::<A, T, R, W>(alloc, options, source, sink)
+    checking::check_recording::<A, T, R, W>(alloc, options, source, sink, talks, marks)
 }
 
 /// Law: each verdict that is told of an end in a block, a yes, a no and an unfinished, is the one

@@ -1,41 +1,38 @@
 //! What the reason of a no of the made order says of other orders.
 
-ghost use Rattle.bgp_check.specs.Answered.{answer_value};
+ghost use Rattle.bgp_judge.specs.Verdict.{verdict_value};
 ghost use Rattle.bgp_recording.specs.Gathered.{IsClocked, IsCovered};
-ghost use Rattle.bgp_check_tool.specs.Instead.{AreInsteadTo};
+ghost use Rattle.bgp_check_tool.specs.Instead.{AreInsteadFor};
 
 use crate::ending::Viewed;
 use crate::making::Made;
 use crate::orders::NoOrder;
-use bgp_check::Answer;
+use bgp_check::Judged;
 use bgp_instead::other_orders;
 use bgp_judge::Verdict;
 use bgp_why::OtherOrders;
 use std::alloc::Allocator;
 
-/// Returns what the reason of this answer on the made order says of other orders, where no order
+/// Returns what the reason of this verdict on the made order says of other orders, where no order
 /// explains this sent message.
 pub(crate) fn instead_of<A: Allocator + Copy>(
     alloc: A,
     viewed: &Viewed<'_>,
     made: &Made<'_, A>,
-    answer: &Answer<A>,
+    about: &Judged<A>,
     found: &NoOrder<'_>,
 ) -> OtherOrders
     requires received { IsCovered viewed.now.connection.received }
     requires sent { IsCovered viewed.now.connection.sent }
-    ensures { IsClocked viewed.now.connection → AreInsteadTo viewed.now.options.within
-        made.now.framings viewed.now.connection made.now.recording.entries.items
-        (answer_value answer.now) found.now.unexplained.before result }
+    ensures { IsClocked viewed.now.connection → AreInsteadFor viewed.now.options.within
+        made.now.framings viewed.now.connection made.now.recording.entries.items about.now.under
+        (verdict_value about.now.verdict) found.now.unexplained.before result }
 {
-    let Answer::Judged(judged) = answer else {
-        return OtherOrders::Unasked;
-    };
-    let Verdict::No(count) = &judged.verdict else {
+    let Verdict::No(count) = &about.verdict else {
         return OtherOrders::Unasked;
     };
     let (config, within, before) = (
-        &judged.under,
+        &about.under,
         viewed.options.within,
         found.unexplained.before,
     );

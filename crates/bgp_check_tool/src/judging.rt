@@ -43,8 +43,8 @@ pub(crate) fn options_to<A: Allocator + Copy>(
     }
 }
 
-/// Those of a verdict.
-fn options_for<A: Allocator + Copy>(
+/// Those of a verdict under a configuration.
+pub(crate) fn options_for<A: Allocator + Copy>(
     alloc: A,
     viewed: &Viewed<'_>,
     made: &Made<'_, A>,

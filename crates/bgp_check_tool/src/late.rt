@@ -13,6 +13,7 @@ use crate::another::{Searched, search_orders};
 use crate::ending::{Viewed, number_in, unfinished};
 use crate::making::made_of;
 use crate::options::CheckOptions;
+use crate::orders::TooLong;
 use bgp_check::{Answer, check_end};
 use bgp_check_lines::{CheckLines, put_late as put_later};
 use bgp_judge::{Tracker, Verdict};
@@ -58,12 +59,14 @@ fn late_by<A: Allocator>(verdict: &Verdict<A>, later: &Answer<A>) -> Option<Late
 
 /// Returns what is answered over all orders, framed so, where each message may be handled as late as
 /// it can be said, if this is answered of the made one: a yes of another, if the made one isn't a
-/// yes; that it is unfinished over all, if the made one is a no. Else what is answered of that.
+/// yes; that it is unfinished over all, if the made one is a no. Else what is answered of that. The
+/// search is known to be too long under these configurations.
 fn over_orders<A: Allocator + Copy, T: Tracker<A>>(
     alloc: A,
     viewed: &Viewed<'_>,
     framings: Framings,
     answer: Answer<A>,
+    known: TooLong,
 ) -> Answer<A>
     requires received { IsCovered viewed.now.connection.received }
     requires sent { IsCovered viewed.now.connection.sent }
@@ -75,10 +78,11 @@ fn over_orders<A: Allocator + Copy, T: Tracker<A>>(
         ..viewed.options
     };
     let later = Viewed { options, ..*viewed };
-    match search_orders::<A, T>(alloc, &later, framings, &answer) {
+    match search_orders::<A, T>(alloc, &later, framings, &answer, known) {
         Searched::Another(another) => another.answer,
         Searched::Unfinished(its) => unfinished(number_in(&answer), its),
-        Searched::Nothing | Searched::NoOrder(_) => answer,
+        Searched::Nothing | Searched::TooLong(_) => answer,
+        Searched::NoOrder(_) | Searched::AsMade(_) => answer,
     }
 }
 
@@ -87,6 +91,7 @@ fn over_orders<A: Allocator + Copy, T: Tracker<A>>(
 fn answered_later<A: Allocator + Copy, T: Tracker<A>>(
     alloc: A,
     viewed: &Viewed<'_>,
+    known: TooLong,
 ) -> Result<Answer<A>, AllocError>
     requires received { IsCovered viewed.now.connection.received }
     requires sent { IsCovered viewed.now.connection.sent }
@@ -96,7 +101,7 @@ fn answered_later<A: Allocator + Copy, T: Tracker<A>>(
     let made = made_of(alloc, &viewed.connection, GREATEST)?;
     let records = made.recording.records.as_slice();
     let answer = check_end::<A, T>(alloc, &viewed.session, records)?;
-    Ok(over_orders::<A, T>(alloc, viewed, made.framings, answer))
+    Ok(over_orders::<A, T>(alloc, viewed, made.framings, answer, known))
 }
 
 /// What this verdict that isn't a yes becomes, where each message may be handled as late as it can
@@ -105,13 +110,14 @@ fn late_again<A: Allocator + Copy, T: Tracker<A>>(
     alloc: A,
     viewed: &Viewed<'_>,
     verdict: &Verdict<A>,
+    known: TooLong,
 ) -> Result<Option<Late>, AllocError>
     requires received { IsCovered viewed.now.connection.received }
     requires sent { IsCovered viewed.now.connection.sent }
     ensures { IfOk result (λ late. IsClocked viewed.now.connection → IsLateOf
         viewed.now.session viewed.now.connection (verdict_value verdict.now) late) }
 {
-    let later = answered_later::<A, T>(alloc, viewed)?;
+    let later = answered_later::<A, T>(alloc, viewed, known)?;
     Ok(late_by(verdict, &later))
 }
 
@@ -120,6 +126,7 @@ fn late_for<A: Allocator + Copy, T: Tracker<A>>(
     alloc: A,
     viewed: &Viewed<'_>,
     verdict: &Verdict<A>,
+    known: TooLong,
 ) -> Result<Option<Late>, AllocError>
     requires received { IsCovered viewed.now.connection.received }
     requires sent { IsCovered viewed.now.connection.sent }
@@ -128,17 +135,19 @@ fn late_for<A: Allocator + Copy, T: Tracker<A>>(
 {
     match verdict {
         Verdict::Yes(_) => Ok(None),
-        Verdict::No(_) => late_again::<A, T>(alloc, viewed, verdict),
-        Verdict::Unfinished => late_again::<A, T>(alloc, viewed, verdict),
+        Verdict::No(_) => late_again::<A, T>(alloc, viewed, verdict, known),
+        Verdict::Unfinished => late_again::<A, T>(alloc, viewed, verdict, known),
     }
 }
 
 /// What the verdict in an answer becomes, if it isn't a yes, where each message may be handled as
-/// late as it can be said: judged once more, of records that are made so.
+/// late as it can be said: judged once more, of records that are made so. The search over all
+/// orders is known to be too long under these configurations, so that it isn't made again.
 pub(crate) fn late_of<A: Allocator + Copy, T: Tracker<A>>(
     alloc: A,
     viewed: &Viewed<'_>,
     answer: &Answer<A>,
+    known: TooLong,
 ) -> Result<Option<Late>, AllocError>
     requires received { IsCovered viewed.now.connection.received }
     requires sent { IsCovered viewed.now.connection.sent }
@@ -147,7 +156,7 @@ pub(crate) fn late_of<A: Allocator + Copy, T: Tracker<A>>(
 {
     match answer {
         Answer::NotJudged(_) => Ok(None),
-        Answer::Judged(judged) => late_for::<A, T>(alloc, viewed, &judged.verdict),
+        Answer::Judged(judged) => late_for::<A, T>(alloc, viewed, &judged.verdict, known),
     }
 }
 

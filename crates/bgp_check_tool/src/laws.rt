@@ -96,8 +96,10 @@ pub fn quiet_keeps_what_is_not_well()
 
 /// The line with the options of `bgp judge` gives the verdict that is told before it: framed as
 /// `judge` frames it by these options, the connection has just the records that were judged, and
-/// under their configuration these have that verdict. `judge` refuses none for a ROUTE-REFRESH, and
-/// is asked for the connection as it has to be.
+/// under their configuration these have that verdict. If no order explains a sent message, they
+/// have a no under it, and over all orders that the packets allow the no under it is at that
+/// message.
+/// `judge` refuses none for a ROUTE-REFRESH, and is asked for the connection as it has to be.
 pub fn a_judge_line_gives_the_verdict()
     ensures { LineGivesTheVerdict }
 {

@@ -9,6 +9,7 @@
 //! ```
 #![tactic(auto)]
 
+mod about;
 mod another;
 mod blocks;
 mod checking;
@@ -23,6 +24,7 @@ mod late;
 mod laws;
 mod lines;
 mod making;
+mod marks;
 mod nothing;
 mod options;
 mod orders;
@@ -30,14 +32,17 @@ mod peer;
 mod place;
 mod seen;
 
+pub use another::Order;
 pub use bgp_check_text::Settings;
 pub use checking::CheckedRecording;
-pub use headline::{a_printed_verdict_is_over_all_configurations, check_recording};
+pub use headline::{a_printed_verdict_is_over_all_configurations, check_marking, check_recording};
 pub use laws::{
     a_judge_line_gives_the_verdict, a_verdict_is_over_all_configurations, each_of_them_is_told,
     no_configuration_has_a_run, no_order_has_a_run, no_order_is_whole, no_verdict_is_vacuous,
     quiet_keeps_what_is_not_well, without_its_ends_it_is_the_list,
 };
+pub use making::{Made, made_of};
+pub use marks::{BothMarks, EndMark, Marks, NoAt};
 pub use nothing::NothingJudged;
 pub use options::CheckOptions;
 pub use seen::seen_from;

@@ -6,7 +6,7 @@ ghost use Rattle.bgp_check_lines.specs.Lines.{PutsLines};
 ghost use Rattle.bgp_check_tool.specs.Elsewhere.{octets_if};
 ghost use Rattle.bgp_check_tool.specs.Text.{after_no, after_unfinished, after_yes, another_text};
 ghost use Rattle.bgp_check_tool.specs.Text.{deed_by, in_made_text, name_of, named_end};
-ghost use Rattle.bgp_check_tool.specs.Text.{one_end_line, order_text, told_lines};
+ghost use Rattle.bgp_check_tool.specs.Text.{one_end_line, one_unless, order_text, told_lines};
 ghost use Rattle.bgp_check_tool.specs.Text.{unfinished_text, verdict_text};
 ghost use Rattle.bgp_check_tool.specs.Told.{told_value};
 
@@ -111,16 +111,30 @@ fn put_whose_order<A: Allocator + Copy, W: Sink>(lines: &mut CheckLines<'_, A, W
     }
 }
 
-/// Puts that, or that one order was judged.
+/// Puts that one order was judged, unless it is known to be so over all.
+fn put_one_unless<A: Allocator + Copy, W: Sink>(
+    lines: &mut CheckLines<'_, A, W>,
+    over_all: bool,
+    put_off: usize,
+)
+    ensures { PutsLines lines.old lines.new (one_unless over_all put_off) }
+{
+    if !over_all {
+        put_one_order(lines, put_off);
+    }
+}
+
+/// Puts that, or that the made order is a no, which is unfinished over all.
 fn put_unfinished_order<A: Allocator + Copy, W: Sink>(
     lines: &mut CheckLines<'_, A, W>,
     order: Order,
+    over_all: bool,
     put_off: usize,
 )
-    ensures { PutsLines lines.old lines.new (unfinished_text order put_off) }
+    ensures { PutsLines lines.old lines.new (unfinished_text order over_all put_off) }
 {
     match order {
-        Order::Made | Order::Another => put_one_order(lines, put_off),
+        Order::Made | Order::Another => put_one_unless(lines, over_all, put_off),
         Order::All => put_all_orders(lines),
     }
 }
@@ -157,7 +171,7 @@ fn put_after_unfinished<A: Allocator + Copy, W: Sink>(
     put_reason(lines, &told.reason);
     put_unshown(lines, told.received, told.sent);
     put_late(lines, told.within, told.late);
-    put_unfinished_order(lines, told.order, told.put_off);
+    put_unfinished_order(lines, told.order, told.over_all, told.put_off);
     put_judge(lines, told.judge);
 }
 

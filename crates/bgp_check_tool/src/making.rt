@@ -27,14 +27,16 @@ fn offered_in(records: &[Record<'_>]) -> Framings
 
 /// The records that tell a connection, and how they are framed.
 #[derive(Drop)]
-pub(crate) struct Made<'a, A: Allocator> {
-    pub(crate) recording: Recording<'a, A>,
-    pub(crate) framings: Framings,
+pub struct Made<'a, A: Allocator> {
+    /// The records.
+    pub recording: Recording<'a, A>,
+    /// How both directions are framed.
+    pub framings: Framings,
 }
 
 /// The records that tell a connection, either direction framed by what its receiver offers. They
 /// are made once, unless something occurs that one of both doesn't offer.
-pub(crate) fn made_of<'a, A: Allocator + Copy>(
+pub fn made_of<'a, A: Allocator + Copy>(
     alloc: A,
     connection: &Connection<'a>,
     within: u16,

@@ -1,4 +1,4 @@
-use Rattle.std.proofs.Common.{◌∙◌, Bool, List, ℕ, Option, ap, map, subst}
+use Rattle.std.proofs.Common.{◌∙◌, Bool, ℕ, Option, ap, map, subst}
 use Rattle.mrt.specs.Reader.{shown_of}
 use Rattle.bgp_explain.specs.KeptLines.{kept_text}
 use Rattle.bgp_explain.specs.Places.{places_of}

@@ -1,4 +1,4 @@
-use Rattle.std.proofs.Common.{◌≡◌, ◌∙◌, ◌++◌, List, ℕ, None, inl, inr, ap, refl, subst, sym, true, Bool, false}
+use Rattle.std.proofs.Common.{◌≡◌, ◌∙◌, ◌++◌, List, ℕ, None, inl, inr, ap, subst, sym, true, Bool, false}
 use Rattle.bgp_prefix.specs.Shown.{Sent}
 use Rattle.bgp_prefix.specs.declared.session.Session.{Session}
 use Rattle.mrt.specs.MemSink.{SinkState}

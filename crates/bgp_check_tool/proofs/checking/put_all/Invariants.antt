@@ -10,6 +10,6 @@ abbrev pub invariant-loop-packet : goal.invariant-loop-packet
 invariant-loop-packet g l = record {
   front : (packets : List Recorded) → HoldsSome l.options.port packets l.talks
       → PutsFront l.options packets l.last_packet l.initial.packet-iterator l.packet-iterator l.fn.lines l.lines l.fn.counted.tally l.counted.tally
-      l.fn.counted.refusals.items l.counted.refusals.items;
+      l.fn.counted.refusals.items l.counted.refusals.items l.fn.marks l.marks;
   apart : AreApart l.counted.refusals.items;
 }

@@ -1,5 +1,6 @@
 use Rattle.bgp_check_tool.specs.Blocks.{AllRefused, block_of}
 use Rattle.bgp_check_tool.proofs.OneMore.{is_told}
+use Rattle.bgp_check_tool.proofs.Marked.{adds_nothing}
 use Rattle.std.proofs.Common.{ap}
 use Rattle.bgp_import.specs.declared.selection.Selection.{Selection}
 use Rattle.bgp_check_tool.proofs.checking.put_listed.Goals as goal
@@ -17,6 +18,7 @@ returns-in-Connection-clause-puts g c = λ packets told.
       wrote = c.put_block.ensures;
       tallied = c.add_connection.ensures.tallied;
       added = c.add_connection.ensures.added;
+      marked = c.add_connection-in-Connection.ensures;
     }
 
 pub returns-in-Refused-clause-puts : goal.returns-in-Refused-clause-puts
@@ -27,4 +29,5 @@ returns-in-Refused-clause-puts g c = λ packets told.
       wrote = c.put_refused_between.ensures;
       tallied = c.add_refusal.ensures.tallied;
       added = c.add_refusal.ensures.added;
+      marked = adds_nothing c.args.marks.now;
     }

@@ -1,0 +1,166 @@
+//! What is known of the ends whose answers are printed: where a no stands.
+
+ghost use Rattle.std.specs.Prelude.{◌≡◌, ◌∷◌, [], IsFalse};
+ghost use Rattle.bgp_check.specs.Answered.{answer_value};
+ghost use Rattle.bgp_check_tool.specs.Blocks.{block_of};
+ghost use Rattle.bgp_check_tool.specs.Marks.{AddsMarks, block_marks, end_mark, mark_by, no_at};
+ghost use Rattle.bgp_check_tool.specs.Told.{told_value};
+ghost use Rattle.bgp_judge.specs.Verdict.{verdict_value};
+
+use crate::another::Order;
+use crate::connection::{BothTold, EndsTold};
+use crate::ending::Told;
+use crate::orders::NoOrder;
+use bgp_check::Answer;
+use bgp_check_text::{Printing, is_left_out};
+use bgp_import::Refusal;
+use bgp_judge::Verdict;
+use bgp_prefix::Session;
+use std::alloc::Allocator;
+use streams::Opening;
+
+/// Where the no of an end stands.
+#[derive(Clone, Copy, Debug, PartialEq, Eq)]
+pub enum NoAt {
+    /// Nowhere: what is answered is no no.
+    Nowhere,
+    /// At the record behind so many of the made order.
+    Record(u64),
+    /// At the message behind so many that the end sent: no order explains it.
+    Message(usize),
+}
+
+/// What is known of an end that is judged.
+#[derive(Clone, Copy, Debug, PartialEq, Eq)]
+pub struct EndMark {
+    /// In which order of its messages that is so.
+    pub order: Order,
+    /// Where its no stands, if it has one.
+    pub no: NoAt,
+}
+
+/// What is known of both ends of a connection.
+#[derive(Clone, Copy, Debug)]
+pub struct BothMarks {
+    /// Its addresses.
+    pub session: Session,
+    /// How it was opened.
+    pub opening: Opening,
+    /// The end that opened it, if it is judged and its answer is printed.
+    pub opener: Option<EndMark>,
+    /// The other one.
+    pub other: Option<EndMark>,
+}
+
+/// What is known of the ends of all connections of a recording, in the order in which they are
+/// printed.
+#[derive(Drop)]
+pub struct Marks<A: Allocator> {
+    /// Both ends of each connection that isn't refused and has two ends.
+    pub both: Vec<BothMarks, A>,
+    /// Whether memory was refused for some of them, so that they are missing.
+    pub are_missing: bool,
+}
+
+/// Returns where a no stands, of which this is the first sent message that no order explains, if
+/// one is known.
+fn no_at<A: Allocator>(verdict: &Verdict<A>, found: &Option<NoOrder<'_>>) -> NoAt
+    ensures { result ≡ no_at (verdict_value verdict.now) found.now }
+{
+    match (verdict, found) {
+        (Verdict::No(_), Some(found)) => NoAt::Message(found.unexplained.before),
+        (Verdict::No(count), None) => NoAt::Record(*count),
+        (Verdict::Yes(_) | Verdict::Unfinished, _) => NoAt::Nowhere,
+    }
+}
+
+/// Returns what is known of an end with this answer.
+fn mark_by<A: Allocator>(
+    answer: &Answer<A>,
+    order: Order,
+    found: &Option<NoOrder<'_>>,
+) -> Option<EndMark>
+    ensures { result ≡ mark_by (answer_value answer.now) order found.now }
+{
+    match answer {
+        Answer::NotJudged(_) => None,
+        Answer::Judged(judged) => Some(EndMark {
+            order,
+            no: no_at(&judged.verdict, found),
+        }),
+    }
+}
+
+/// Returns what is known of an end, if it is judged and isn't left out.
+fn end_mark<A: Allocator>(printing: Printing, told: &Told<'_, A>) -> Option<EndMark>
+    ensures { result ≡ end_mark printing (told_value told.now) }
+{
+    if is_left_out(printing.quiet, &told.answer) {
+        None
+    } else {
+        mark_by(&told.answer, told.order, &told.found)
+    }
+}
+
+impl<A: Allocator> Marks<A> {
+    /// Nothing yet.
+    pub fn new(alloc: A) -> Marks<A>
+        ensures both { result.both.items ≡ [] }
+        ensures none { IsFalse result.are_missing }
+    {
+        Marks {
+            both: Vec::new(alloc),
+            are_missing: false,
+        }
+    }
+
+    /// Adds both ends of a connection.
+    fn add(&mut self, both: BothMarks)
+        ensures { AddsMarks self.old self.new (both ∷ []) }
+    {
+        match self.both.push(both) {
+            Ok(()) => {}
+            Err(_) => self.are_missing = true,
+        }
+    }
+
+    /// Adds both ends of a connection of which this is told.
+    fn add_both(
+        &mut self,
+        session: &Session,
+        opening: Opening,
+        printing: Printing,
+        both: &BothTold<'_, A>,
+    )
+        ensures { AddsMarks self.old self.new (record {
+          session = session.now;
+          opening = opening;
+          opener = end_mark printing (told_value both.now.opener);
+          other = end_mark printing (told_value both.now.other);
+        } ∷ []) }
+    {
+        self.add(BothMarks {
+            session: *session,
+            opening,
+            opener: end_mark(printing, &both.opener),
+            other: end_mark(printing, &both.other),
+        });
+    }
+
+    /// Adds the ends of a connection, if this is told of two.
+    pub(crate) fn add_connection(
+        &mut self,
+        session: &Session,
+        opening: Opening,
+        printing: Printing,
+        told: &Result<EndsTold<'_, A>, Refusal>,
+    )
+        ensures { AddsMarks self.old self.new
+            (block_marks printing (block_of session.now opening told.now)) }
+    {
+        match told {
+            Ok(EndsTold::Both(both)) => self.add_both(session, opening, printing, both),
+            Ok(EndsTold::One(..)) | Err(_) => {}
+        }
+    }
+}
