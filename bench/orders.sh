@@ -32,7 +32,8 @@ check_cost() {
     /usr/bin/time -f '%U + %S s, %M KiB' "$bgp" check "$1" 2>&1 > /dev/null | tail -1
 }
 
-for size in '100 100' '100 10' '400 400' '400 20' '1000 1000' '1000 100' '3000 300'; do
+for size in '100 100' '100 10' '400 400' '400 20' '500 25' '600 60' '700 100' '1000 1000' \
+    '1000 100' '3000 300'; do
     read -r count rate <<< "$size"
     "$here/recordings.py" both "$count" "$rate" > "$work/no.pcap"
     # the last packet is the OPEN: a header of 16 octets, two of 40, and 49

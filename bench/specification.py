@@ -47,6 +47,9 @@ LISTED = 3
 # A name with what stands behind its dots, and not behind one itself.
 NAME = re.compile(r"(?<![\w.'])([A-Za-z_][\w']*)((?:\.[A-Za-z_][\w']*)*)")
 USE = re.compile(r'\s*(?:ghost )?use (Rattle\.[\w.]+?)(?:\.\{([^}]*)\})?(?: as (\w+))?;?\s*$')
+# What a crate passes on of one below: a file of definitions, and items of the code.
+PASSED = re.compile(r'(?m)^pub use (Rattle\.[\w.]+?)(?: as (\w+))?$')
+HANDED = re.compile(r'pub use (\w+)::([^;]*);')
 
 
 def read(path):
@@ -150,9 +153,13 @@ class Crate:
         for place, _, files in os.walk(os.path.join(folder, 'src')):
             for file in files:
                 self.read(os.path.join(place, file))
+        passed = os.path.join(specs, 'Lib.antt')
+        self.passed = {alias or path.split('.')[-1]: path for path, alias in PASSED.findall(
+            read(passed) if os.path.exists(passed) else '')}
         lib = os.path.join(folder, 'src', 'lib.rt')
-        handed = re.findall(r'pub use ([^;]*);', read(lib) if os.path.exists(lib) else '')
-        self.public = set(re.findall(r'\w+', ' '.join(handed)))
+        handed = HANDED.findall(read(lib) if os.path.exists(lib) else '')
+        self.public = set(re.findall(r'\w+', ' '.join(names for _, names in handed)))
+        self.handed = {name: home for home, names in handed for name in re.findall(r'\w+', names)}
 
     def read(self, path):
         """The functions, types and traits of a file, each with its contract, and its imports."""
@@ -238,9 +245,17 @@ class Library:
         self.outside = set()
         self.crates = {name: Crate(name) for name in names if not name.endswith('_tests')}
 
+    def home_of(self, path):
+        """The path of a file of definitions in the crate that has it, not in one that passes it on."""
+        parts = path.split('.')
+        crate = self.crates.get(parts[1])
+        if crate and parts[2:3] == ['specs'] and len(parts) > 3 and parts[3] in crate.passed:
+            return self.home_of('.'.join([crate.passed[parts[3]], *parts[4:]]))
+        return path
+
     def node(self, path, name):
         """The node of an imported name: a word or an item of the code; none of the toolchain's."""
-        parts = path.split('.')
+        parts = self.home_of(path).split('.')
         crate = self.crates.get(parts[1])
         if crate is None:
             if parts[3] != 'declared':
@@ -260,6 +275,11 @@ class Library:
         path, target = scope.get(name, (None, None))
         if path == 'code':
             home, item = target.split('.')
+            while item not in getattr(self.crates.get(home), 'items', {item: None}):
+                handed = self.crates[home].handed.get(item)
+                if handed not in self.crates:
+                    break
+                home = handed
             return ('item', home, item) if item in getattr(
                 self.crates.get(home), 'items', {}) else None
         if path is None:

@@ -4,6 +4,7 @@ pub mod WholeSegments
 pub mod Filled
 pub mod Lengths
 pub mod LargeCommunities
+pub mod Noted
 pub mod Written
 pub mod WrittenField
 pub mod GoodRows
@@ -13,3 +14,6 @@ pub mod FirstOfType
 pub mod FirstNoted
 pub mod NumbersRead
 pub mod PathRead
+pub use Rattle.bgp_wire.proofs.GreatestLength
+pub use Rattle.bgp_wire.proofs.WholeMessages
+pub use Rattle.bgp_wire.proofs.WrittenMessage

@@ -4,6 +4,7 @@ pub mod Types
 pub mod Segments
 pub mod Class
 pub mod LargeCommunities
+pub mod Noted
 pub mod Values
 pub mod Writing
 pub mod First
@@ -11,3 +12,11 @@ pub mod Numbers
 pub mod PathIn
 pub mod PathFrom
 pub mod ReadBack
+pub use Rattle.bgp_path.specs.Path
+pub use Rattle.bgp_path.specs.declared.path.NextHop
+pub use Rattle.bgp_wire.specs.Framing
+pub use Rattle.bgp_wire.specs.Header
+pub use Rattle.bgp_wire.specs.Message
+pub use Rattle.bgp_wire.specs.Verdict
+pub use Rattle.bgp_wire.specs.declared.header.Limit
+pub use Rattle.bgp_wire.specs.declared.header.MessageType

@@ -5,19 +5,28 @@
 //! ```
 
 ghost use Rattle.std.specs.Prelude.{◌≡◌, ◌≤◌, ◌<◌, ◌+◌, ◌*◌, ◌^◌, ◌++◌, IfSome, IfNone, IfOk};
+ghost use Rattle.std.specs.Prelude.{List, [], ◌∷◌, if◌then◌else◌, not};
 ghost use Rattle.std.specs.Prelude.{length, drop, vec_len, vec_capacity};
 ghost use Rattle.std.specs.List.{flat_map};
-ghost use Rattle.bgp_path.specs.LargeCommunities.{without_repeats};
+ghost use Rattle.bgp_path.specs.declared.large_community.LargeCommunity.{
+  LargeCommunity as LargeCommunityValue,
+};
+ghost use Rattle.bgp_path.specs.LargeCommunities.{has_large_community, without_repeats};
 ghost use Rattle.bgp_attr.specs.LargeCommunities.{large_communities_in, large_community_at};
 ghost use Rattle.bgp_attr.specs.LargeCommunities.{large_community_octets};
+ghost use Rattle.bgp_attr.specs.Noted.{AreNoted};
 
 use bgp_path::LargeCommunity;
 use bgp_wire::put_u32;
 use byteorder::{BigEndian, ByteOrder};
 use std::alloc::{AllocError, Allocator};
+use std::collections::BTreeSet;
 
 /// How many octets one has.
 const SIZE: usize = 12;
+
+/// So many are quicker compared with each other than noted in a set.
+const FEW: usize = 48;
 
 /// The large community in the first twelve octets, and what follows them.
 fn split_large_community(octets: &[u8]) -> Option<(LargeCommunity, &[u8])>
@@ -37,11 +46,28 @@ fn split_large_community(octets: &[u8]) -> Option<(LargeCommunity, &[u8])>
     Some((community, &octets[SIZE..]))
 }
 
-/// The large communities in their order, of equal ones the first alone (RFC 8092, 5).
-pub(crate) fn read_large_communities<A: Allocator>(
-    alloc: A,
-    octets: &[u8],
-) -> Result<Vec<LargeCommunity, A>, AllocError>
+/// Notes a large community. Returns whether none that was noted before is equal to it.
+fn note<A: Allocator + Clone>(
+    noted: &mut BTreeSet<(u32, u32, u32), A>,
+    community: LargeCommunity,
+) -> Result<bool, AllocError>
+    ensures new { (kept : List LargeCommunityValue) → AreNoted noted.old kept
+        → IfOk result (λ new. new ≡ not (has_large_community kept community)) }
+    ensures noted { (kept : List LargeCommunityValue) → AreNoted noted.old kept
+        → IfOk result
+        (λ new. AreNoted noted.new (if new then kept ++ community ∷ [] else kept)) }
+{
+    let numbers = (
+        community.global_administrator,
+        community.local_data_part_1,
+        community.local_data_part_2,
+    );
+    Ok(noted.insert(numbers)?)
+}
+
+/// The large communities in their order, of equal ones the first alone: each is compared with all
+/// before it.
+fn read_few<A: Allocator>(alloc: A, octets: &[u8]) -> Result<Vec<LargeCommunity, A>, AllocError>
     ensures { IfOk result (λ communities.
         communities.items ≡ without_repeats (large_communities_in octets.now)) }
 {
@@ -54,6 +80,41 @@ pub(crate) fn read_large_communities<A: Allocator>(
         rest = after;
     }
     Ok(communities)
+}
+
+/// The same, with a set of those that were read: what one takes grows as the logarithm of their
+/// count.
+fn read_many<A: Allocator + Copy>(
+    alloc: A,
+    octets: &[u8],
+) -> Result<Vec<LargeCommunity, A>, AllocError>
+    ensures { IfOk result (λ communities.
+        communities.items ≡ without_repeats (large_communities_in octets.now)) }
+{
+    let mut communities = Vec::with_capacity(alloc, octets.len() / SIZE)?;
+    let mut noted = BTreeSet::new(alloc);
+    let mut rest = octets;
+    while let Some((community, after)) = split_large_community(rest) {
+        if note(&mut noted, community)? {
+            communities.push(community)?;
+        }
+        rest = after;
+    }
+    Ok(communities)
+}
+
+/// The large communities in their order, of equal ones the first alone (RFC 8092, 5).
+pub(crate) fn read_large_communities<A: Allocator + Copy>(
+    alloc: A,
+    octets: &[u8],
+) -> Result<Vec<LargeCommunity, A>, AllocError>
+    ensures { IfOk result (λ communities.
+        communities.items ≡ without_repeats (large_communities_in octets.now)) }
+{
+    if octets.len() <= FEW * SIZE {
+        return read_few(alloc, octets);
+    }
+    read_many(alloc, octets)
 }
 
 /// How many octets large communities have.

@@ -27,6 +27,8 @@ mod types;
 mod values;
 mod writing;
 
+pub use bgp_path::{NextHop, Path};
+pub use bgp_wire::{Limit, MessageType, message_body};
 pub use classes::{AttrVerdict, Side, class};
 pub use field::{Attr, Attrs, Tail};
 pub use first::{FirstAttrs, first_of};

@@ -9,11 +9,11 @@ use Rattle.bgp_check_capture_tool.specs.Putting.{Adds, is_some_text}
 use Rattle.bgp_prefix.specs.declared.address.Address.{Address}
 use Rattle.bgp_judge.specs.Verdict.{No, Unfinished, VerdictValue, Yes}
 use Rattle.mrt.specs.declared.fault.CaptureFault.{CaptureFault}
-use Rattle.bgp_list.specs.Sessions.{fault_text, refused_text}
+use Rattle.bgp_check_lines.specs.Sessions.{fault_text, refused_text}
 use Rattle.bgp_check.specs.Answered.{AnswerValue, JudgedAs, Unjudged}
 use Rattle.bgp_check.specs.declared.peer_as.PeerAs.{PeerAs}
-use Rattle.bgp_check_text.specs.Text.{no_line, not_judged_line, unfinished_line, yes_line}
-use Rattle.bgp_check_text.specs.declared.quiet.Printing.{Printing}
+use Rattle.bgp_check_lines.specs.Text.{no_line, not_judged_line, unfinished_line, yes_line}
+use Rattle.bgp_check_lines.specs.Printing.{Printing}
 use Rattle.bgp_prefix.specs.Shown.{ShownRecord}
 use Rattle.bgp_check_capture_tool.specs.Ends.{Silent, Staying, Stretch, front_ends, silent_ends}
 use Rattle.bgp_check_capture_tool.specs.StretchEnd.{StretchEnd}

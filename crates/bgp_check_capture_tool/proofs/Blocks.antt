@@ -13,12 +13,12 @@ use Rattle.bgp_text.proofs.Pieces.{Joins}
 use Rattle.bgp_check_lines.specs.Lines.{PutsLines}
 use Rattle.bgp_check_lines.specs.declared.check_lines.CheckLines.{CheckLines}
 use Rattle.bgp_check_lines.proofs.Puts.{then_lines}
-use Rattle.bgp_check_text.specs.Tally.{no_tally}
-use Rattle.bgp_check_text.specs.declared.quiet.Printing.{Printing}
-use Rattle.bgp_check_text.specs.declared.tally.Tally.{Tally}
+use Rattle.bgp_check_lines.specs.Tally.{no_tally}
+use Rattle.bgp_check_lines.specs.Printing.{Printing}
+use Rattle.bgp_check_lines.specs.DeclaredTally.{Tally}
 use Rattle.bgp_check_capture_tool.specs.Checking.{Block, IsBlock, PutsBlocks, block_text, blocks_text, faults_in, tally_from, with_block}
 use Rattle.bgp_check_capture_tool.specs.Firsts.{firsts_after, with_first}
-use Rattle.bgp_list.specs.Sessions.{fault_text, session_line}
+use Rattle.bgp_check_lines.specs.Sessions.{fault_text, session_line}
 use Rattle.bgp_check_capture_tool.specs.Ends.{IsSessionTold}
 use Rattle.bgp_check_capture_tool.specs.Putting.{PutsSession}
 use Rattle.bgp_check_capture_tool.specs.Text.{ends_text, session_text}

@@ -10,9 +10,9 @@ use Rattle.bgp_machine.specs.Lists.{Each}
 use Rattle.bgp_check.specs.Stretch.{LeavesIdle}
 use Rattle.bgp_check.specs.declared.not_judged.NotJudged.TheVariants.{NothingSent}
 use Rattle.bgp_check.specs.BeforeLeaving.{IsAtLeaving, IsBeforeLeaving}
-use Rattle.bgp_check_text.specs.Text.{why_text}
-use Rattle.bgp_check_text.specs.Tally.{with_unjudged}
-use Rattle.bgp_check_text.specs.declared.tally.Tally.{Tally}
+use Rattle.bgp_check_lines.specs.Text.{why_text}
+use Rattle.bgp_check_lines.specs.Tally.{with_unjudged}
+use Rattle.bgp_check_lines.specs.DeclaredTally.{Tally}
 use Rattle.bgp_check_capture_tool.specs.Counted.{with_ends}
 use Rattle.bgp_check_capture_tool.specs.Ends.{front_ends, silent_ends}
 use Rattle.bgp_check_capture_tool.specs.Stretches.{IsFirst}

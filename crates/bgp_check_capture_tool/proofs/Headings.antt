@@ -4,11 +4,11 @@ use Rattle.std.specs.List.{flat_map}
 use Rattle.mrt_sessions.specs.File.{Located}
 use Rattle.mrt_sessions.specs.Sessions.{records_between}
 use Rattle.mrt_sessions.specs.declared.addresses.Addresses.{Addresses}
-use Rattle.bgp_list.specs.Sessions.{session_line}
+use Rattle.bgp_check_lines.specs.Sessions.{session_line}
 use Rattle.bgp_check_capture_tool.specs.Checking.{Block, blocks_text}
 use Rattle.bgp_check_capture_tool.specs.Headings.{ListIsWithoutEnds, end_lines, heading}
 use Rattle.bgp_check_capture_tool.specs.Text.{session_text}
-use Rattle.bgp_check_text.specs.declared.quiet.Printing.{Printing}
+use Rattle.bgp_check_lines.specs.Printing.{Printing}
 
 each_heading : (named : List Located) (blocks : List Block)
     → flat_map (heading named) blocks ≡ flat_map (λ (a : Addresses). session_line a (records_between a named)) (map (λ (b : Block). b.addresses) blocks)

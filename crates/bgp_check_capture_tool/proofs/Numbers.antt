@@ -2,7 +2,7 @@
 use Rattle.std.proofs.Common.{◌≡◌, ◌∙◌, ◌<◌, ◌+◌, ◌++◌, ℕ, zero, suc, List, [], ◌∷◌, ap, arith, get_or, length, sym, take}
 use Rattle.std.proofs.lemmas.List.{map-append, take_more}
 use Rattle.std.specs.List.{AllByRecursion}
-use Rattle.bgp_check_text.specs.Places.{NumberedRecord}
+use Rattle.bgp_check_lines.specs.Places.{NumberedRecord}
 use Rattle.mrt_sessions.specs.File.{Located}
 use Rattle.bgp_check_capture_tool.specs.Places.{numbered_after, numbers_of}
 

@@ -33,10 +33,10 @@ use Rattle.bgp_check.specs.Named.{NoNamesItsRecord}
 use Rattle.bgp_check.specs.StretchLaws.{IsLeftSo, JudgedAreStretches}
 use Rattle.bgp_check.specs.StretchTold.{IsStretchTold, ToldValue, place_of, with_leaving}
 use Rattle.bgp_check.proofs.Stretched.{no_by}
-use Rattle.bgp_check_text.specs.Reached.{ReachedValue}
-use Rattle.bgp_check_text.specs.End.{as_text, end_text as name_text, part_by}
-use Rattle.bgp_check_text.specs.Text.{deed_if, no_line, not_judged_line, place_when, unfinished_line, yes_line, yes_lines}
-use Rattle.bgp_check_text.specs.declared.end.EndName.{EndName}
+use Rattle.bgp_check_lines.specs.Reached.{ReachedValue}
+use Rattle.bgp_check_lines.specs.End.{as_text, end_text as name_text, part_by}
+use Rattle.bgp_check_lines.specs.Text.{deed_if, no_line, not_judged_line, place_when, unfinished_line, yes_line, yes_lines}
+use Rattle.bgp_check_lines.specs.EndName.{EndName}
 use Rattle.bgp_check_capture_tool.specs.Checking.{Block, IsBlock}
 use Rattle.bgp_check_capture_tool.specs.Ends.{End, IsSessionTold, Silent, Staying, Stretch, session_of}
 use Rattle.bgp_check_capture_tool.specs.Naming.{endpoint_of}

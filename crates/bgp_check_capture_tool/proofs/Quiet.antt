@@ -10,13 +10,13 @@ use Rattle.mrt_sessions.specs.declared.addresses.Addresses.{Addresses}
 use Rattle.bgp_judge.specs.Verdict.{No, Unfinished, Yes}
 use Rattle.bgp_check.specs.Answered.{AnswerValue, JudgedAs, Unjudged}
 use Rattle.bgp_check.specs.Cut.{joined}
-use Rattle.bgp_list.specs.Sessions.{fault_text, refused_text}
-use Rattle.bgp_check_text.specs.Quiet.{is_well}
-use Rattle.bgp_check_text.specs.Tally as tallies
-use Rattle.bgp_check_text.specs.Tally.{last_text, tally_line}
-use Rattle.bgp_check_text.specs.Text.{no_line, unfinished_line}
-use Rattle.bgp_check_text.specs.declared.quiet.Printing.{Printing}
-use Rattle.bgp_check_text.specs.declared.tally.Tally.{Tally}
+use Rattle.bgp_check_lines.specs.Sessions.{fault_text, refused_text}
+use Rattle.bgp_check_lines.specs.Quiet.{is_well}
+use Rattle.bgp_check_lines.specs.Tally as tallies
+use Rattle.bgp_check_lines.specs.Tally.{last_text, tally_line}
+use Rattle.bgp_check_lines.specs.Text.{no_line, unfinished_line}
+use Rattle.bgp_check_lines.specs.Printing.{Printing}
+use Rattle.bgp_check_lines.specs.DeclaredTally.{Tally}
 use Rattle.bgp_check_capture_tool.specs.Checking.{Block, IsBlock, block_text, blocks_text, nothing_text, telling_of}
 use Rattle.bgp_check_capture_tool.specs.Counted.{with_fault}
 use Rattle.bgp_check_capture_tool.specs.Ends.{AreTold, End, IsSessionTold, IsToldOf, Silent, Staying, Stretch, TellsRecords, TellsStretches}

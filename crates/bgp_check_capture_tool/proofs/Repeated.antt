@@ -8,9 +8,9 @@ use Rattle.bgp_judge.specs.Verdict.{HasVerdict, VerdictValue}
 use Rattle.bgp_check.specs.Answered.{AnswerValue, HasItsVerdict, IsAnswerTo, IsJudged, JudgedAs}
 use Rattle.bgp_check.specs.declared.peer_as.PeerAs.{PeerAs}
 use Rattle.bgp_check.specs.StretchTold.{IsStretchTold, ToldValue, answer_by, with_leaving}
-use Rattle.bgp_check_text.specs.Settings.{are_told}
-use Rattle.bgp_check_text.specs.OfCapture.{IsReadAlike, session_of}
-use Rattle.bgp_check_text.specs.declared.options.JudgeOptions.{JudgeOptions}
+use Rattle.bgp_check_lines.specs.Settings.{are_told}
+use Rattle.bgp_check_lines.specs.OfCapture.{IsReadAlike, session_of}
+use Rattle.bgp_check_lines.specs.JudgeOptions.{JudgeOptions}
 use Rattle.bgp_check_capture_tool.specs.Judging.{AreOptionsFor, AreOptionsOf, AreOptionsTo}
 use Rattle.bgp_check_capture_tool.specs.Stretches.{first_of}
 use Rattle.bgp_check_capture_tool.specs.Repeated.{LineGivesTheVerdict}

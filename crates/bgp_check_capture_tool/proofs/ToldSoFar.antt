@@ -11,8 +11,8 @@ use Rattle.bgp_text.proofs.Pieces.{Joins}
 use Rattle.bgp_check.specs.Cut.{IsWholeStretch, joined}
 use Rattle.bgp_check.specs.Stretch.{LeavesIdle}
 use Rattle.bgp_check.specs.BeforeLeaving.{IsAtLeaving, IsBeforeLeaving}
-use Rattle.bgp_check_text.specs.declared.quiet.Printing.{Printing}
-use Rattle.bgp_check_text.specs.declared.tally.Tally.{Tally}
+use Rattle.bgp_check_lines.specs.Printing.{Printing}
+use Rattle.bgp_check_lines.specs.DeclaredTally.{Tally}
 use Rattle.bgp_check_capture_tool.specs.Counted.{with_ends, with_one}
 use Rattle.bgp_check_capture_tool.specs.Ends.{AreTold, End, IsToldOf, front_ends}
 use Rattle.bgp_check_capture_tool.specs.Putting.{Adds, Puts, StretchesUpTo}

@@ -11,9 +11,9 @@ use Rattle.mrt_sessions.specs.declared.lengths.ExtendedMessages.{ExtendedMessage
 use Rattle.bgp_machine.specs.Lists.{Has}
 use Rattle.bgp_check_lines.specs.declared.check_lines.CheckLines.{CheckLines}
 use Rattle.bgp_check.specs.SessionOffers.{HearsOffer, SendsOffer}
-use Rattle.bgp_list.specs.Capture.{no_memory}
-use Rattle.bgp_list.specs.Sessions.{session_line}
-use Rattle.bgp_check_text.specs.declared.tally.Tally.{Tally}
+use Rattle.bgp_check_lines.specs.Capture.{no_memory}
+use Rattle.bgp_check_lines.specs.Sessions.{session_line}
+use Rattle.bgp_check_lines.specs.DeclaredTally.{Tally}
 use Rattle.bgp_check_capture_tool.specs.Ends.{IsSessionTold, session_of, view_of}
 use Rattle.bgp_check_capture_tool.specs.Judging.{telling_where}
 use Rattle.bgp_check_capture_tool.specs.Putting.{Puts, RecordsUpTo, heading_of}

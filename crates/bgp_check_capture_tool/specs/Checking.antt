@@ -14,12 +14,12 @@ use Rattle.bgp_check_lines.specs.Lines.{PutsLines}
 use Rattle.bgp_check_lines.specs.declared.check_lines.CheckLines.{CheckLines}
 use Rattle.bgp_check_lines.specs.Printed.{IsWrittenIn}
 use Rattle.bgp_check_lines.specs.Values.{no_record_line}
-use Rattle.bgp_list.specs.Capture.{no_memory}
-use Rattle.bgp_list.specs.Sessions.{fault_text, session_line}
-use Rattle.bgp_check_text.specs.Tally.{has_verdict, is_empty, is_incomplete, no_tally, status_of}
-use Rattle.bgp_check_text.specs.Tally.{last_text}
-use Rattle.bgp_check_text.specs.declared.quiet.Printing.{Printing}
-use Rattle.bgp_check_text.specs.declared.tally.Tally.{Tally}
+use Rattle.bgp_check_lines.specs.Capture.{no_memory}
+use Rattle.bgp_check_lines.specs.Sessions.{fault_text, session_line}
+use Rattle.bgp_check_lines.specs.Tally.{has_verdict, is_empty, is_incomplete, no_tally, status_of}
+use Rattle.bgp_check_lines.specs.Tally.{last_text}
+use Rattle.bgp_check_lines.specs.Printing.{Printing}
+use Rattle.bgp_check_lines.specs.DeclaredTally.{Tally}
 use Rattle.bgp_check_capture_tool.specs.Counted.{with_ends, with_fault}
 use Rattle.bgp_check_capture_tool.specs.Ends.{End, IsSessionTold}
 use Rattle.bgp_check_capture_tool.specs.Firsts.{firsts_after, with_first}

@@ -2,8 +2,8 @@
 use Rattle.std.specs.Prelude.{true, List, [], ◌∷◌, Option, None, Some}
 use Rattle.mrt.specs.declared.fault.CaptureFault.{CaptureFault}
 use Rattle.bgp_tool.specs.CaptureDecoding.{status_by}
-use Rattle.bgp_check_text.specs.Tally.{with_end, with_refusal, with_unjudged}
-use Rattle.bgp_check_text.specs.declared.tally.Tally.{Tally}
+use Rattle.bgp_check_lines.specs.Tally.{with_end, with_refusal, with_unjudged}
+use Rattle.bgp_check_lines.specs.DeclaredTally.{Tally}
 use Rattle.bgp_check_capture_tool.specs.Ends.{End, Silent, Staying, Stretch}
 
 abbrev pub with_one : Tally → End → Tally

@@ -13,7 +13,7 @@ use Rattle.bgp_machine.specs.Lists.{Has}
 use Rattle.bgp_check.specs.Cut.{joined}
 use Rattle.bgp_check.specs.NotJudged.{SendsSome}
 use Rattle.bgp_check.specs.SessionOffers.{HearsOffer, SendsOffer}
-use Rattle.bgp_list.specs.Capture.{no_memory}
+use Rattle.bgp_check_lines.specs.Capture.{no_memory}
 use Rattle.bgp_check_capture_tool.specs.Judging.{telling_where}
 use Rattle.bgp_check_capture_tool.specs.StretchEnd.{IsStretchEnd, StretchEnd, View}
 use Rattle.bgp_check_capture_tool.specs.Stretches.{AreCut, first_of}

@@ -5,10 +5,10 @@ use Rattle.mrt.specs.declared.fault.CaptureFault.{CaptureFault}
 use Rattle.mrt_sessions.specs.File.{Located}
 use Rattle.mrt_sessions.specs.Sessions.{records_between}
 use Rattle.mrt_sessions.specs.declared.holding.Ending.{Ending}
-use Rattle.bgp_list.specs.Capture.{ListsAll}
-use Rattle.bgp_list.specs.Sessions.{fault_text, session_line}
-use Rattle.bgp_check_text.specs.declared.quiet.Printing.{Printing}
-use Rattle.bgp_check_text.specs.declared.tally.Tally.{Tally}
+use Rattle.bgp_check_lines.specs.Capture.{ListsAll}
+use Rattle.bgp_check_lines.specs.Sessions.{fault_text, session_line}
+use Rattle.bgp_check_lines.specs.Printing.{Printing}
+use Rattle.bgp_check_lines.specs.DeclaredTally.{Tally}
 use Rattle.bgp_check_capture_tool.specs.Checking.{Block, TellsAll}
 use Rattle.bgp_check_capture_tool.specs.Text.{ends_text}
 use Rattle.bgp_check_capture_tool.specs.declared.options.CaptureOptions.{CaptureOptions}

@@ -8,11 +8,11 @@ use Rattle.mrt_sessions.specs.File.{Located}
 use Rattle.bgp_open.specs.declared.config.Config.{Config}
 use Rattle.bgp_check.specs.Answered.{AnswerValue, JudgedAs, Unjudged}
 use Rattle.bgp_check.specs.StretchTold.{IsStretchTold, ToldValue}
-use Rattle.bgp_check_text.specs.OwnFaults.{IsToldConfiguration}
-use Rattle.bgp_check_text.specs.Settings.{are_told, where_refused}
-use Rattle.bgp_check_text.specs.JudgeLine.{judge_line}
-use Rattle.bgp_check_text.specs.OfCapture.{AreCaptureOptions}
-use Rattle.bgp_check_text.specs.declared.options.JudgeOptions.{JudgeOptions}
+use Rattle.bgp_check_lines.specs.OwnFaults.{IsToldConfiguration}
+use Rattle.bgp_check_lines.specs.Settings.{are_told, where_refused}
+use Rattle.bgp_check_lines.specs.JudgeLine.{judge_line}
+use Rattle.bgp_check_lines.specs.OfCapture.{AreCaptureOptions}
+use Rattle.bgp_check_lines.specs.JudgeOptions.{JudgeOptions}
 use Rattle.bgp_check_capture_tool.specs.declared.telling.Telling.{Telling}
 
 -- the line, where they are told

@@ -15,3 +15,5 @@ pub mod Quiet
 pub mod Headline
 pub mod Printed
 pub mod Repeated
+pub use Rattle.bgp_check_lines.specs.Printed as CheckLinesPrinted
+pub use Rattle.bgp_check_lines.specs.DeclaredSettings

@@ -4,8 +4,8 @@ use Rattle.std.specs.Prelude.{◌≡◌, ◌+◌, ℕ, zero, suc, List, Option, 
 use Rattle.bgp_prefix.specs.Shown.{ShownRecord}
 use Rattle.bgp_prefix.specs.declared.address.Address.{Address}
 use Rattle.bgp_why.specs.declared.endpoint.Endpoint.{Endpoint}
-use Rattle.bgp_check_text.specs.AsNumber.{HasAsNumber}
-use Rattle.bgp_check_text.specs.declared.end.EndName.{EndName}
+use Rattle.bgp_check_lines.specs.AsNumber.{HasAsNumber}
+use Rattle.bgp_check_lines.specs.EndName.{EndName}
 
 -- a capture tells no port
 abbrev pub endpoint_of : Address → Endpoint

@@ -8,7 +8,7 @@ use Rattle.bgp_judge.specs.Verdict.{No, Unfinished, VerdictValue, Yes}
 use Rattle.bgp_why.specs.declared.place.Place.{Place}
 use Rattle.bgp_check.specs.Answered.{AnswerValue, JudgedAs, Unjudged}
 use Rattle.bgp_check.specs.StretchTold.{ToldValue}
-use Rattle.bgp_check_text.specs.Places.{NumberedRecord}
+use Rattle.bgp_check_lines.specs.Places.{NumberedRecord}
 
 -- the fraction of the second of the record before which so many stand, if it has one
 abbrev pub micro_after : List Located → ℕ → Option ℕ

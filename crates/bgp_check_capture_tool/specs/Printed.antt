@@ -33,9 +33,9 @@ use Rattle.bgp_check.specs.Left.{HasVerdictWhereLeft}
 use Rattle.bgp_check.specs.SessionOffers.{HearsOffer, SendsOffer}
 use Rattle.bgp_check.specs.Passed.{Keeps, Left, nothing_left}
 use Rattle.bgp_check.specs.StretchTold.{offers_of, with_leaving}
-use Rattle.bgp_check_text.specs.Tally.{last_text, status_of}
-use Rattle.bgp_check_text.specs.declared.tally.Tally.{Tally}
-use Rattle.bgp_list.specs.Sessions.{fault_text}
+use Rattle.bgp_check_lines.specs.Tally.{last_text, status_of}
+use Rattle.bgp_check_lines.specs.DeclaredTally.{Tally}
+use Rattle.bgp_check_lines.specs.Sessions.{fault_text}
 use Rattle.bgp_check_capture_tool.specs.Checking.{Block, IsBlock, blocks_text, nothing_text}
 use Rattle.bgp_check_capture_tool.specs.Checking.{telling_of}
 use Rattle.bgp_check_capture_tool.specs.Ends.{End, Silent, Staying, Stretch, session_of}

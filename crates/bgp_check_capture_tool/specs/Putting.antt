@@ -9,9 +9,9 @@ use Rattle.mrt_sessions.specs.File.{Located}
 use Rattle.mrt_sessions.specs.declared.addresses.Addresses.{Addresses}
 use Rattle.bgp_check_lines.specs.Lines.{PutsLines}
 use Rattle.bgp_check_lines.specs.declared.check_lines.CheckLines.{CheckLines}
-use Rattle.bgp_list.specs.Sessions.{fault_text, session_line}
-use Rattle.bgp_check_text.specs.declared.quiet.Printing.{Printing}
-use Rattle.bgp_check_text.specs.declared.tally.Tally.{Tally}
+use Rattle.bgp_check_lines.specs.Sessions.{fault_text, session_line}
+use Rattle.bgp_check_lines.specs.Printing.{Printing}
+use Rattle.bgp_check_lines.specs.DeclaredTally.{Tally}
 use Rattle.bgp_check_capture_tool.specs.Counted.{with_ends, with_fault}
 use Rattle.bgp_check_capture_tool.specs.Ends.{End, IsSessionTold, TellsRecords}
 use Rattle.bgp_check_capture_tool.specs.Ends.{TellsStretches, addresses_of}

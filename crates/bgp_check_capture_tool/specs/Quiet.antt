@@ -5,10 +5,10 @@ use Rattle.std.specs.List.{flat_map, list_any}
 use Rattle.mrt.specs.declared.fault.CaptureFault.{CaptureFault}
 use Rattle.mrt_sessions.specs.File.{Located}
 use Rattle.mrt_sessions.specs.declared.holding.Ending.{Ending}
-use Rattle.bgp_list.specs.Sessions.{fault_text}
-use Rattle.bgp_check_text.specs.Tally as tallies
-use Rattle.bgp_check_text.specs.Tally.{last_text, tally_line}
-use Rattle.bgp_check_text.specs.declared.tally.Tally.{Tally}
+use Rattle.bgp_check_lines.specs.Sessions.{fault_text}
+use Rattle.bgp_check_lines.specs.Tally as tallies
+use Rattle.bgp_check_lines.specs.Tally.{last_text, tally_line}
+use Rattle.bgp_check_lines.specs.DeclaredTally.{Tally}
 use Rattle.bgp_check_capture_tool.specs.Checking.{Block, TellsAll, nothing_text}
 use Rattle.bgp_check_capture_tool.specs.Counted.{with_fault}
 use Rattle.bgp_check_capture_tool.specs.Ends.{End}

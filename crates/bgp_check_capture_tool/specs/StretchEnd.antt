@@ -9,13 +9,13 @@ use Rattle.mrt_sessions.specs.File.{Located}
 use Rattle.mrt_sessions.specs.Located.{located}
 use Rattle.bgp_wire.specs.Header.{limit_with}
 use Rattle.bgp_check.specs.StretchTold.{IsStretchTold, ToldValue, told_value}
-use Rattle.bgp_list.specs.Sessions.{first_second}
-use Rattle.bgp_check_text.specs.Reason.{IsReasonTo, deed_text, lines_text}
-use Rattle.bgp_check_text.specs.declared.end.EndName.{EndName}
-use Rattle.bgp_check_text.specs.declared.reason.Reason.{Reason}
-use Rattle.bgp_check_text.specs.Reached.{IsReached, ReachedValue, reached_value}
-use Rattle.bgp_check_text.specs.Places.{numbered_places}
-use Rattle.bgp_check_text.specs.declared.options.JudgeOptions.{JudgeOptions}
+use Rattle.bgp_check_lines.specs.Sessions.{first_second}
+use Rattle.bgp_check_lines.specs.CheckTextReason.{IsReasonTo, deed_text, lines_text}
+use Rattle.bgp_check_lines.specs.EndName.{EndName}
+use Rattle.bgp_check_lines.specs.DeclaredReason.{Reason}
+use Rattle.bgp_check_lines.specs.Reached.{IsReached, ReachedValue, reached_value}
+use Rattle.bgp_check_lines.specs.Places.{numbered_places}
+use Rattle.bgp_check_lines.specs.JudgeOptions.{JudgeOptions}
 use Rattle.bgp_check_capture_tool.specs.Judging.{AreOptionsOf}
 use Rattle.bgp_check_capture_tool.specs.Naming.{IsNameOf, endpoint_of}
 use Rattle.bgp_check_capture_tool.specs.Places.{numbers_of, place_in}

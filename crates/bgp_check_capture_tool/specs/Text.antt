@@ -6,12 +6,12 @@ use Rattle.bgp_judge.specs.Verdict.{No, Unfinished, VerdictValue, Yes}
 use Rattle.bgp_check.specs.Answered.{AnswerValue, JudgedAs, Unjudged}
 use Rattle.bgp_check.specs.declared.not_judged.NotJudged.TheVariants.{NothingSent}
 use Rattle.bgp_check.specs.declared.peer_as.PeerAs.{PeerAs}
-use Rattle.bgp_check_text.specs.Text.{no_line, not_judged_line, unfinished_line, why_text}
-use Rattle.bgp_check_text.specs.Text.{yes_lines}
-use Rattle.bgp_check_text.specs.Quiet.{is_left_out}
-use Rattle.bgp_check_text.specs.Unshown.{passed_notes}
+use Rattle.bgp_check_lines.specs.Text.{no_line, not_judged_line, unfinished_line, why_text}
+use Rattle.bgp_check_lines.specs.Text.{yes_lines}
+use Rattle.bgp_check_lines.specs.Quiet.{is_left_out}
+use Rattle.bgp_check_lines.specs.Unshown.{passed_notes}
 use Rattle.bgp_check_lines.specs.Values.{unnamed_line}
-use Rattle.bgp_check_text.specs.declared.quiet.Printing.{Printing}
+use Rattle.bgp_check_lines.specs.Printing.{Printing}
 use Rattle.bgp_check_capture_tool.specs.Ends.{End, Silent, Staying, Stretch}
 use Rattle.bgp_check_capture_tool.specs.StretchEnd.{StretchEnd}
 use Rattle.bgp_check_capture_tool.specs.Judging.{judge_text}

@@ -12,9 +12,9 @@ use Rattle.bgp_prefix.specs.declared.session.Session.{Session}
 use Rattle.mrt_sessions.specs.File.{Located}
 use Rattle.bgp_why.specs.declared.endpoint.Endpoint.{Endpoint}
 use Rattle.bgp_check_lines.specs.Values.{open_line}
-use Rattle.bgp_ended.specs.EndedLine.{ended_stretch_line}
-use Rattle.bgp_ended.specs.Stretch.{EndedStretchValue, IsEndOf, ended_stretch_value}
-use Rattle.bgp_list.specs.Sessions.{first_second}
+use Rattle.bgp_check_lines.specs.EndedLine.{ended_stretch_line}
+use Rattle.bgp_check_lines.specs.Stretch.{EndedStretchValue, IsEndOf, ended_stretch_value}
+use Rattle.bgp_check_lines.specs.Sessions.{first_second}
 use Rattle.bgp_check_capture_tool.specs.Naming.{endpoint_of}
 use Rattle.bgp_check_capture_tool.specs.Places.{micro_after}
 use Rattle.bgp_check_capture_tool.specs.declared.told_end.ToldEnd.{ToldEnd}

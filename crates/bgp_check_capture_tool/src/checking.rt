@@ -1,8 +1,8 @@
 //! `bgp check` of a capture.
 
 ghost use Rattle.std.specs.Prelude.{◌≡◌, ◌<◌, ◌||◌, [], List, None, Some, is_some, map};
-ghost use Rattle.bgp_list.specs.Capture.{no_memory};
-ghost use Rattle.bgp_list.specs.Sessions.{fault_text, session_line};
+ghost use Rattle.bgp_check_lines.specs.Capture.{no_memory};
+ghost use Rattle.bgp_check_lines.specs.Sessions.{fault_text, session_line};
 ghost use Rattle.bgp_tool.specs.Front.{no_capture};
 ghost use Rattle.bgp_tool.specs.NothingFound.{without_records_by};
 ghost use Rattle.bgp_tool.specs.declared.note.CaptureCommand.TheVariants.{Check};
@@ -11,7 +11,7 @@ ghost use Rattle.mrt_sessions.specs.Located.{located};
 ghost use Rattle.mrt_sessions.specs.Sessions.{HoldsSessions, held_records, records_between};
 ghost use Rattle.mrt_sessions.specs.Sessions.{sessions_in};
 ghost use Rattle.bgp_check_lines.specs.Lines.{PutsLines};
-ghost use Rattle.bgp_check_text.specs.Tally.{no_tally};
+ghost use Rattle.bgp_check_lines.specs.Tally.{no_tally};
 ghost use Rattle.bgp_check_capture_tool.specs.Checking.{ChecksCapture, PutsBlocks, PutsFile};
 ghost use Rattle.bgp_check_capture_tool.specs.Checking.{nothing_by, nothing_text};
 ghost use Rattle.bgp_check_capture_tool.specs.Firsts.{AreApart};
@@ -24,8 +24,7 @@ use crate::nothing::NothingJudged;
 use crate::options::CaptureOptions;
 use crate::telling::Telling;
 use arrayvec::ArrayVec;
-use bgp_check_lines::{CheckLines, put_fault, put_last, put_no_record};
-use bgp_check_text::Tally;
+use bgp_check_lines::{CheckLines, Tally, put_fault, put_last, put_no_record};
 use bgp_judge::Tracker;
 use bgp_tool::{CaptureCommand, Note, without_records};
 use mrt::{CaptureFault, Sink, Source};

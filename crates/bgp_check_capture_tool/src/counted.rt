@@ -1,14 +1,13 @@
 //! How what is told of a capture is counted.
 
 ghost use Rattle.std.specs.Prelude.{◌≡◌, []};
-ghost use Rattle.bgp_check_text.specs.Tally.{no_tally};
+ghost use Rattle.bgp_check_lines.specs.Tally.{no_tally};
 ghost use Rattle.bgp_check_capture_tool.specs.Counted.{with_fault};
 ghost use Rattle.bgp_check_capture_tool.specs.Firsts.{AreApart, with_first};
 
 use crate::firsts::{NUMBERS, add_first};
 use arrayvec::ArrayVec;
-use bgp_check_text::Tally;
-use bgp_list::fault_status;
+use bgp_check_lines::{Tally, fault_status};
 use mrt::CaptureFault;
 
 /// The tally with a refusal more, if there is one.

@@ -5,15 +5,14 @@ ghost use Rattle.mrt.specs.Reader.{shown_of};
 ghost use Rattle.mrt_sessions.specs.Located.{located};
 ghost use Rattle.bgp_check.specs.Answered.{answer_value};
 ghost use Rattle.bgp_check.specs.StretchTold.{told_value};
-ghost use Rattle.bgp_check_text.specs.Settings.{are_told};
+ghost use Rattle.bgp_check_lines.specs.Settings.{are_told};
 ghost use Rattle.bgp_check_lines.specs.Lines.{PutsLines};
 ghost use Rattle.bgp_check_capture_tool.specs.Judging.{AreOptionsFor, AreOptionsOf, AreOptionsTo};
 ghost use Rattle.bgp_check_capture_tool.specs.Judging.{judge_text, passes_over};
 
 use crate::stretch_end::View;
 use bgp_check::{Answer, Judged, StretchTold};
-use bgp_check_lines::{CheckLines, put_repeat};
-use bgp_check_text::{JudgeOptions, capture_options, told_configuration};
+use bgp_check_lines::{CheckLines, JudgeOptions, capture_options, put_repeat, told_configuration};
 use mrt::{Record, Sink};
 use std::alloc::Allocator;
 

@@ -28,6 +28,7 @@ mod stretch_end;
 mod telling;
 mod told_end;
 
+pub use bgp_check_lines::{Printing, Settings};
 pub use checking::CheckedCapture;
 pub use headline::{a_printed_verdict_is_over_all_configurations, check_capture};
 pub use laws::{

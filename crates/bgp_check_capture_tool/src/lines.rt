@@ -5,7 +5,7 @@ ghost use Rattle.bgp_judge.specs.Verdict.{verdict_value};
 ghost use Rattle.bgp_prefix.specs.declared.address.Address.{Address as TheAddress};
 ghost use Rattle.bgp_check_lines.specs.Lines.{PutsLines};
 ghost use Rattle.bgp_check.specs.declared.not_judged.NotJudged.TheVariants.{NothingSent};
-ghost use Rattle.bgp_check_text.specs.Text.{why_text};
+ghost use Rattle.bgp_check_lines.specs.Text.{why_text};
 ghost use Rattle.bgp_check_capture_tool.specs.Ends.{Stretch};
 ghost use Rattle.bgp_check_capture_tool.specs.Naming.{endpoint_of};
 ghost use Rattle.bgp_check_capture_tool.specs.StretchEnd.{deed_in, lines_in, stretch_value};
@@ -18,10 +18,9 @@ use crate::stretch_end::StretchEnd;
 use crate::told_end::{is_over, put_told_end};
 use bgp_check::{Answer, Judged};
 use bgp_check_lines::{
-    CheckLines, put_no, put_not_judged, put_passed_over, put_reason, put_unfinished, put_unnamed,
-    put_yes,
+    CheckLines, Reason, put_no, put_not_judged, put_passed_over, put_reason, put_unfinished,
+    put_unnamed, put_yes,
 };
-use bgp_check_text::Reason;
 use bgp_judge::Verdict;
 use bgp_prefix::Address;
 use mrt::Sink;

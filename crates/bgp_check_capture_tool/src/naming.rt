@@ -4,7 +4,7 @@ ghost use Rattle.std.specs.Prelude.{◌≡◌, ◌+◌, ◌<◌, length, map, op
 ghost use Rattle.mrt.specs.Reader.{shown_of};
 ghost use Rattle.bgp_check_capture_tool.specs.Naming.{IsNameOf, endpoint_of, told_part};
 
-use bgp_check_text::{EndName, sent_as_number};
+use bgp_check_lines::{EndName, sent_as_number};
 use bgp_prefix::Address;
 use bgp_why::Endpoint;
 use mrt::Record;

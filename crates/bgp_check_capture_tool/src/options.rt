@@ -1,7 +1,6 @@
 //! How a capture is checked.
 
-use bgp_check_lines::VerdictForm;
-use bgp_check_text::{Printing, Settings};
+use bgp_check_lines::{Printing, Settings, VerdictForm};
 
 /// How a capture is checked.
 #[derive(Clone, Copy, Debug)]

@@ -10,7 +10,7 @@ ghost use Rattle.bgp_check_capture_tool.specs.Places.{place_after, place_in, pla
 ghost use Rattle.bgp_check_capture_tool.specs.Places.{second_at};
 
 use bgp_check::{Answer, Judged, StretchTold};
-use bgp_check_text::NumberedRecord;
+use bgp_check_lines::NumberedRecord;
 use bgp_judge::Verdict;
 use bgp_prefix::Seconds;
 use bgp_why::Place;

@@ -6,7 +6,7 @@ ghost use Rattle.mrt.specs.Reader.{shown_of};
 ghost use Rattle.mrt_sessions.specs.Located.{located};
 ghost use Rattle.bgp_check.specs.Answered.{IsAnswerTo, answer_value};
 ghost use Rattle.bgp_check.specs.StretchTold.{told_value};
-ghost use Rattle.bgp_check_text.specs.Reason.{deed_text, lines_text};
+ghost use Rattle.bgp_check_lines.specs.CheckTextReason.{deed_text, lines_text};
 ghost use Rattle.bgp_check_capture_tool.specs.Judging.{IsToldOfSome};
 ghost use Rattle.bgp_check_capture_tool.specs.StretchEnd.{IsReasonFor, IsStretchEnd, deed_in};
 ghost use Rattle.bgp_check_capture_tool.specs.StretchEnd.{lines_in, own_records, stretch_value};
@@ -19,11 +19,10 @@ use crate::places::{numbers_of, place_in};
 use crate::telling::Telling;
 use crate::told_end::{ToldEnd, told_end};
 use bgp_check::{Answer, StretchTold, check_stretch};
-use bgp_check_text::{
-    EndName, JudgeOptions, Places, Reached, Reason, is_no_yes, reached_by, reason_of,
+use bgp_check_lines::{
+    EndName, JudgeOptions, Places, Reached, Reason, first_second, is_no_yes, reached_by, reason_of,
 };
 use bgp_judge::Tracker;
-use bgp_list::first_second;
 use bgp_prefix::Session;
 use bgp_why::{OtherOrders, Place};
 use bgp_wire::Limit;

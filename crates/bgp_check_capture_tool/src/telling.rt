@@ -5,7 +5,7 @@ ghost use Rattle.bgp_check_capture_tool.specs.Checking.{telling_of};
 ghost use Rattle.bgp_check_capture_tool.specs.Judging.{telling_where};
 
 use crate::options::CaptureOptions;
-use bgp_check_text::{Printing, Settings};
+use bgp_check_lines::{Printing, Settings};
 use mrt::CaptureFault;
 
 /// What is told of sessions of a file besides their verdicts.

@@ -10,10 +10,8 @@ ghost use Rattle.bgp_check_capture_tool.specs.ToldEnd.{open_text, told_end_line,
 
 use crate::naming::endpoint_of;
 use crate::places::micro_after;
-use bgp_check_lines::{CheckLines, put_ended, put_open};
-use bgp_ended::{EndedStretch, ended_in};
+use bgp_check_lines::{CheckLines, EndedStretch, ended_in, first_second, put_ended, put_open};
 use bgp_judge::End;
-use bgp_list::first_second;
 use bgp_machine::Fsm;
 use bgp_prefix::{Address, Seconds, Session};
 use bgp_why::Endpoint;

@@ -6,15 +6,15 @@ use Rattle.mrt.specs.declared.sink.Sink as sinks
 use Rattle.bgp_text.specs.Lines.{Writes}
 use Rattle.bgp_text.specs.declared.lines.Lines.{Lines}
 use Rattle.bgp_check_text.specs.LinesKept.{IsOfLines}
-use Rattle.bgp_json_verdicts.specs.Lines.{LineValue, line_text}
-use Rattle.bgp_json_verdicts.specs.Objects.{counts_behind, objects_from}
-use Rattle.bgp_json_verdicts.specs.Telling.{AreValues, PutsObjects, lines_of}
-use Rattle.bgp_json_verdicts.specs.declared.telling.Counts.{Counts}
+use Rattle.bgp_json_check.specs.JsonVerdictsLines.{LineValue, line_text}
+use Rattle.bgp_json_check.specs.JsonVerdictsObjects.{counts_behind, objects_from}
+use Rattle.bgp_json_check.specs.JsonVerdictsTelling.{AreValues, PutsObjects, lines_of}
+use Rattle.bgp_json_check.specs.Counts.{Counts}
 use Rattle.bgp_json_check.specs.Telling.{Tells}
 use Rattle.bgp_json_check.specs.declared.teller.CheckTeller.{CheckTeller}
-use Rattle.bgp_verdict_lines.specs.Teller as verdicts
-use Rattle.bgp_verdict_lines.specs.declared.teller.VerdictTeller.{VerdictTeller}
-use Rattle.bgp_verdict_lines.specs.declared.teller.VerdictTeller.TheVariants as tellers
+use Rattle.bgp_check_text.specs.Teller as verdicts
+use Rattle.bgp_check_text.specs.VerdictTeller.{VerdictTeller}
+use Rattle.bgp_check_text.specs.VerdictTeller.TheVariants as tellers
 use Rattle.bgp_check_lines.specs.Reason.{AreToldAs}
 use Rattle.bgp_check_lines.specs.Teller.{TellsText}
 use Rattle.bgp_check_lines.specs.Values.{Explains, value_text}

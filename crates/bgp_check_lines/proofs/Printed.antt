@@ -10,8 +10,8 @@ use Rattle.bgp_tool.proofs.CaptureJudged.{is_written}
 use Rattle.bgp_check_lines.specs.Lines.{PutsLines}
 use Rattle.bgp_check_lines.specs.Printed.{IsToldInJson, IsWrittenIn}
 use Rattle.bgp_check_lines.specs.Teller.{Starts, teller_status}
-use Rattle.bgp_verdict_lines.specs.declared.form.VerdictForm.{VerdictForm}
-use Rattle.bgp_verdict_lines.specs.declared.form.VerdictForm.TheVariants as forms
+use Rattle.bgp_check_text.specs.VerdictForm.{VerdictForm}
+use Rattle.bgp_check_text.specs.VerdictForm.TheVariants as forms
 use Rattle.bgp_check_lines.specs.declared.teller.LineTeller.{LineTeller}
 use Rattle.bgp_check_lines.specs.declared.teller.LineTeller.TheVariants as tellers
 use Rattle.bgp_check_lines.specs.declared.check_lines.CheckLines.{CheckLines}

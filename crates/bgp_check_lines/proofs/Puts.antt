@@ -10,7 +10,7 @@ use Rattle.bgp_json_check.specs.declared.teller.CheckTeller.{CheckTeller}
 use Rattle.bgp_check_lines.proofs.Values.{failed_values}
 use Rattle.bgp_check_lines.specs.Lines.{PutsLines}
 use Rattle.bgp_check_lines.specs.Teller.{PutsText, Starts, TellsText, TellsValues}
-use Rattle.bgp_verdict_lines.specs.declared.form.VerdictForm.TheVariants as forms
+use Rattle.bgp_check_text.specs.VerdictForm.TheVariants as forms
 use Rattle.bgp_check_lines.specs.declared.teller.LineTeller.{LineTeller}
 use Rattle.bgp_check_lines.specs.declared.teller.LineTeller.TheVariants as tellers
 use Rattle.bgp_check_lines.specs.declared.check_lines.CheckLines.{CheckLines}

@@ -2,7 +2,7 @@
 use Rattle.std.proofs.Common.{◌≡◌, ℕ, Bool, true, false, List}
 use Rattle.mrt.specs.declared.sink.Sink as sinks
 use Rattle.bgp_text.specs.declared.lines.Lines.{Lines}
-use Rattle.bgp_json_verdicts.specs.Telling.{PutsObjects}
+use Rattle.bgp_json_check.specs.JsonVerdictsTelling.{PutsObjects}
 use Rattle.bgp_check_lines.specs.Teller.{PutsText}
 use Rattle.bgp_check_lines.specs.Values.{CheckValue, objects_from}
 use Rattle.bgp_check_lines.specs.declared.teller.LineTeller.{LineTeller}

@@ -11,9 +11,9 @@ use Rattle.bgp_check_lines.specs.Printed.{IsToldInJson, IsWrittenIn}
 use Rattle.bgp_check_lines.specs.Teller.{PutsText, Starts, teller_status}
 use Rattle.bgp_check_lines.specs.Teller.{TellsText}
 use Rattle.bgp_json_check.specs.Telling.{told_status}
-use Rattle.bgp_json_verdicts.specs.Telling.{PutsObjects, lines_of}
-use Rattle.bgp_verdict_lines.specs.declared.form.VerdictForm.{VerdictForm}
-use Rattle.bgp_verdict_lines.specs.declared.form.VerdictForm.TheVariants as forms
+use Rattle.bgp_json_check.specs.JsonVerdictsTelling.{PutsObjects, lines_of}
+use Rattle.bgp_check_text.specs.VerdictForm.{VerdictForm}
+use Rattle.bgp_check_text.specs.VerdictForm.TheVariants as forms
 use Rattle.bgp_check_lines.specs.declared.teller.LineTeller.{LineTeller}
 use Rattle.bgp_check_lines.specs.declared.teller.LineTeller.TheVariants as tellers
 use Rattle.bgp_json_check.specs.declared.teller.CheckTeller.{CheckTeller}

@@ -6,7 +6,7 @@ use Rattle.json.specs.Json.{Json}
 use Rattle.mrt.specs.declared.sink.Sink as sinks
 use Rattle.bgp_text.specs.declared.lines.Lines.{Lines}
 use Rattle.bgp_text.proofs.Pieces.{Joins}
-use Rattle.bgp_json_verdicts.specs.Telling.{PutsObjects}
+use Rattle.bgp_json_check.specs.JsonVerdictsTelling.{PutsObjects}
 use Rattle.bgp_json_check.specs.Telling.{TellsUpTo}
 use Rattle.bgp_json_check.specs.declared.teller.CheckTeller.{CheckTeller}
 use Rattle.bgp_json_check.proofs.Told.{and_tell_on, failed, nothing_told}

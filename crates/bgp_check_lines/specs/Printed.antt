@@ -2,9 +2,9 @@
 use Rattle.std.specs.Prelude.{◌≡◌, ◌⊎◌, ℕ, List}
 use Rattle.std.specs.List.{flat_map}
 use Rattle.bgp_tool.specs.Answer.{IsWritten}
-use Rattle.bgp_json_verdicts.specs.Telling.{ArePutInPart, AreValues, lines_of}
-use Rattle.bgp_verdict_lines.specs.declared.form.VerdictForm.{VerdictForm}
-use Rattle.bgp_verdict_lines.specs.declared.form.VerdictForm.TheVariants as forms
+use Rattle.bgp_json_check.specs.JsonVerdictsTelling.{ArePutInPart, AreValues, lines_of}
+use Rattle.bgp_check_text.specs.VerdictForm.{VerdictForm}
+use Rattle.bgp_check_text.specs.VerdictForm.TheVariants as forms
 use Rattle.bgp_check_lines.specs.Values.{CheckValue, objects_of, value_text}
 
 -- The text is that of lines, and these are their objects, a line each; or memory was refused for

@@ -6,8 +6,8 @@ use Rattle.bgp_text.specs.Lines.{Writes}
 use Rattle.bgp_text.specs.declared.lines.Lines.{Lines}
 use Rattle.bgp_json_check.specs.Telling.{TellsUpTo, told_status}
 use Rattle.bgp_json_check.specs.declared.teller.CheckTeller.{CheckTeller}
-use Rattle.bgp_verdict_lines.specs.declared.form.VerdictForm.{VerdictForm}
-use Rattle.bgp_verdict_lines.specs.declared.form.VerdictForm.TheVariants as forms
+use Rattle.bgp_check_text.specs.VerdictForm.{VerdictForm}
+use Rattle.bgp_check_text.specs.VerdictForm.TheVariants as forms
 use Rattle.bgp_check_lines.specs.Values.{CheckValue, counted_from, objects_from, value_text}
 use Rattle.bgp_check_lines.specs.declared.teller.LineTeller.{LineTeller}
 use Rattle.bgp_check_lines.specs.declared.teller.LineTeller.TheVariants as tellers

@@ -14,8 +14,8 @@ use Rattle.bgp_values.specs.declared.opens.Direction.{Direction}
 use Rattle.bgp_recording.specs.declared.framing.Rest.{Rest}
 use Rattle.bgp_recording.specs.declared.framing.Rest.TheVariants.{BehindFault, Short}
 use Rattle.bgp_import.specs.declared.refusal.Refusal.{Refusal}
-use Rattle.bgp_check.specs.declared.not_judged.NotJudged.{NotJudged}
-use Rattle.bgp_check.specs.declared.peer_as.PeerAs.{PeerAs}
+use Rattle.bgp_check_text.specs.NotJudged.{NotJudged}
+use Rattle.bgp_check_text.specs.PeerAs.{PeerAs}
 use Rattle.bgp_why.specs.Endpoint.{endpoint_text}
 use Rattle.bgp_why.specs.Place.{place_text}
 use Rattle.bgp_why.specs.declared.endpoint.Endpoint.{Endpoint}
@@ -23,24 +23,24 @@ use Rattle.bgp_why.specs.declared.place.Place.{Place}
 use Rattle.bgp_json.specs.Object.{typed}
 use Rattle.bgp_json.specs.Others.{capture_json}
 use Rattle.bgp_json_values.specs.Objects.{number_of}
-use Rattle.bgp_json_verdicts.specs.At.{at_of}
-use Rattle.bgp_json_verdicts.specs.Lines as verdicts
-use Rattle.bgp_json_verdicts.specs.Objects as objects
-use Rattle.bgp_json_verdicts.specs.Objects.{text_json}
+use Rattle.bgp_json_check.specs.At.{at_of}
+use Rattle.bgp_json_check.specs.JsonVerdictsLines as verdicts
+use Rattle.bgp_json_check.specs.JsonVerdictsObjects as objects
+use Rattle.bgp_json_check.specs.JsonVerdictsObjects.{text_json}
 use Rattle.bgp_json_check.specs.Members.{deed_members, direction_word, end_members}
 use Rattle.bgp_json_check.specs.Members.{known_members}
 use Rattle.bgp_json_check.specs.Objects.{ended_json, in_made_members, judged_json}
 use Rattle.bgp_json_check.specs.Objects.{unjudged_members, yes_json}
 use Rattle.bgp_json_check.specs.declared.member.JudgedEnd.{JudgedEnd}
-use Rattle.bgp_ended.specs.EndedLine.{ended_stretch_line}
-use Rattle.bgp_ended.specs.Stretch.{EndedStretchValue}
-use Rattle.bgp_list.specs.ConnectionJson.{refused_json}
-use Rattle.bgp_list.specs.Connections.{refused_text}
-use Rattle.bgp_list.specs.Forms.{line_json}
-use Rattle.bgp_list.specs.Lines.{LineValue, line_text}
-use Rattle.bgp_list.specs.SessionJson.{session_json}
-use Rattle.bgp_list.specs.Sessions as sessions
-use Rattle.bgp_list.specs.Sessions.{session_line}
+use Rattle.bgp_check_text.specs.EndedLine.{ended_stretch_line}
+use Rattle.bgp_check_text.specs.Stretch.{EndedStretchValue}
+use Rattle.bgp_json_check.specs.ConnectionJson.{refused_json}
+use Rattle.bgp_json_check.specs.Connections.{refused_text}
+use Rattle.bgp_json_check.specs.Forms.{line_json}
+use Rattle.bgp_json_check.specs.Lines.{LineValue, line_text}
+use Rattle.bgp_json_check.specs.SessionJson.{session_json}
+use Rattle.bgp_json_check.specs.Sessions as sessions
+use Rattle.bgp_json_check.specs.Sessions.{session_line}
 use Rattle.bgp_check_text.specs.End.{part_end_text}
 use Rattle.bgp_check_text.specs.JudgeLine.{command_text, judge_line}
 use Rattle.bgp_check_text.specs.Reached.{ReachedValue}

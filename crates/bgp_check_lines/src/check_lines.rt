@@ -6,9 +6,9 @@ ghost use Rattle.bgp_tool.specs.Status.{code_of};
 ghost use Rattle.bgp_check_lines.specs.Teller.{Starts, teller_status};
 
 use crate::teller::LineTeller;
+use bgp_check_text::VerdictForm;
 use bgp_text::Lines;
 use bgp_tool::{Status, hand_over};
-use bgp_verdict_lines::VerdictForm;
 use mrt::{Failed, Sink};
 use std::alloc::Allocator;
 

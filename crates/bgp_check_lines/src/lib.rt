@@ -24,7 +24,13 @@ mod totals;
 mod verdicts;
 
 // The form is that of the lines of a verdict.
-pub use bgp_verdict_lines::VerdictForm;
+pub use bgp_check_text::{
+    Asked, EndName, EndedStretch, JudgeOptions, NumberedRecord, Places, Printing, Reached, Reason,
+    Settings, Tally, VerdictForm, are_framed_alike, asked_of, capture_options, ended_in,
+    entry_place, is_left_out, is_no_yes, judge_options, reached_by, reason_of, reason_under,
+    sent_as_number, sent_deed, sent_form, told_configuration,
+};
+pub use bgp_json_check::{fault_status, first_second};
 pub use check_lines::CheckLines;
 pub use listed::{
     put_connection, put_fault, put_refused, put_refused_between, put_refused_connection,

@@ -2,17 +2,17 @@
 
 ghost use Rattle.std.specs.Prelude.{Some, map};
 ghost use Rattle.mrt_sessions.specs.Located.{located};
-ghost use Rattle.bgp_ended.specs.Values.{outline_value};
-ghost use Rattle.bgp_list.specs.Connections.{connection_text, refused_between_text};
-ghost use Rattle.bgp_list.specs.Connections.{refused_connection_text, refused_text};
-ghost use Rattle.bgp_list.specs.Sessions.{fault_text, session_line};
+ghost use Rattle.bgp_check_text.specs.Values.{outline_value};
+ghost use Rattle.bgp_json_check.specs.Connections.{connection_text, refused_between_text};
+ghost use Rattle.bgp_json_check.specs.Connections.{refused_connection_text, refused_text};
+ghost use Rattle.bgp_json_check.specs.Sessions.{fault_text, session_line};
 ghost use Rattle.bgp_check_lines.specs.Lines.{PutsLines};
 
 use crate::check_lines::CheckLines;
 use crate::teller::LineTeller;
-use bgp_ended::Outline;
+use bgp_check_text::Outline;
 use bgp_import::Refusal;
-use bgp_list::Line;
+use bgp_json_check::Line;
 use bgp_prefix::Session;
 use mrt::{CaptureFault, Sink};
 use mrt_sessions::{Addresses, NamedRecord};
@@ -35,7 +35,14 @@ pub fn put_connection<A: Allocator + Copy, W: Sink>(
 {
     match &mut lines.teller {
         LineTeller::Text => {
-            bgp_list::put_connection(&mut lines.lines, session, opening, outline, first, second);
+            bgp_json_check::put_connection(
+                &mut lines.lines,
+                session,
+                opening,
+                outline,
+                first,
+                second,
+            );
         }
         LineTeller::Json(teller) => {
             let listed = Line::Octets(*session, opening, *outline, first, second);
@@ -56,7 +63,7 @@ pub fn put_refused_connection<A: Allocator + Copy, W: Sink>(
 {
     match &mut lines.teller {
         LineTeller::Text => {
-            bgp_list::put_refused_connection(&mut lines.lines, session, opening, refusal);
+            bgp_json_check::put_refused_connection(&mut lines.lines, session, opening, refusal);
         }
         LineTeller::Json(teller) => {
             let listed = Line::Refused(*session, opening, refusal);
@@ -75,7 +82,7 @@ pub fn put_refused_between<A: Allocator + Copy, W: Sink>(
 {
     match &mut lines.teller {
         LineTeller::Text => {
-            bgp_list::put_refused_between(&mut lines.lines, addresses, refusal);
+            bgp_json_check::put_refused_between(&mut lines.lines, addresses, refusal);
         }
         LineTeller::Json(teller) => {
             let listed = Line::AllRefused(addresses, refusal);
@@ -89,7 +96,7 @@ pub fn put_refused<A: Allocator + Copy, W: Sink>(lines: &mut CheckLines<'_, A, W
     ensures { PutsLines lines.old lines.new (refused_text refusal) }
 {
     match &mut lines.teller {
-        LineTeller::Text => bgp_list::put_refused(&mut lines.lines, refusal),
+        LineTeller::Text => bgp_json_check::put_refused(&mut lines.lines, refusal),
         LineTeller::Json(teller) => teller.put_refused(&mut lines.lines, refusal),
     }
 }
@@ -104,7 +111,7 @@ pub fn put_session<A: Allocator + Copy, W: Sink>(
         (session_line addresses (map located records.now)) }
 {
     match &mut lines.teller {
-        LineTeller::Text => bgp_list::put_session(&mut lines.lines, addresses, records),
+        LineTeller::Text => bgp_json_check::put_session(&mut lines.lines, addresses, records),
         LineTeller::Json(teller) => {
             teller.put_session(&mut lines.lines, lines.alloc, addresses, records);
         }
@@ -119,7 +126,7 @@ fn put_some_fault<A: Allocator + Copy, W: Sink>(
     ensures { PutsLines lines.old lines.new (fault_text (Some fault)) }
 {
     match &mut lines.teller {
-        LineTeller::Text => bgp_list::put_fault(&mut lines.lines, Some(fault)),
+        LineTeller::Text => bgp_json_check::put_fault(&mut lines.lines, Some(fault)),
         LineTeller::Json(teller) => teller.put_capture_fault(&mut lines.lines, fault),
     }
 }

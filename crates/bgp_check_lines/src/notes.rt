@@ -5,8 +5,8 @@ ghost use Rattle.mrt.specs.MemSink.{sink_state};
 ghost use Rattle.bgp_text.specs.Lines.{Writes};
 ghost use Rattle.bgp_check_text.specs.JudgeLine.{command_text, judge_line};
 ghost use Rattle.bgp_values.specs.declared.opens.Direction.TheVariants.{Received, Sent};
-ghost use Rattle.bgp_ended.specs.EndedLine.{ended_stretch_line};
-ghost use Rattle.bgp_ended.specs.Stretch.{ended_stretch_value};
+ghost use Rattle.bgp_check_text.specs.EndedLine.{ended_stretch_line};
+ghost use Rattle.bgp_check_text.specs.Stretch.{ended_stretch_value};
 ghost use Rattle.bgp_check_text.specs.Unshown.{end_name, passed_notes, unshown_notes};
 ghost use Rattle.bgp_check_lines.specs.Lines.{PutsLines};
 ghost use Rattle.bgp_check_lines.specs.Teller.{TellsValues};
@@ -17,11 +17,9 @@ ghost use Rattle.bgp_check_lines.specs.Values.{one_order_line, open_line, rest_v
 
 use crate::check_lines::CheckLines;
 use crate::teller::LineTeller;
-use bgp_check_text::{JudgeOptions, put_command, put_judge_line};
+use bgp_check_text::{EndedStretch, JudgeOptions, put_command, put_ended_stretch, put_judge_line};
 use bgp_clock::put_short;
-use bgp_ended::{EndedStretch, put_ended_stretch};
-use bgp_json_check::{CheckDetail, CheckTeller};
-use bgp_json_verdicts::At;
+use bgp_json_check::{At, CheckDetail, CheckTeller};
 use bgp_prefix::Seconds;
 use bgp_recording::{Rest, Unshown};
 use bgp_text::Lines;

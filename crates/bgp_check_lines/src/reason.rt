@@ -9,11 +9,10 @@ ghost use Rattle.bgp_check_lines.specs.Teller.{TellsText};
 
 use crate::check_lines::CheckLines;
 use crate::teller::LineTeller;
-use bgp_check_text::Reason;
+use bgp_check_text::{Reason, VerdictLines};
 use bgp_json_check::CheckTeller;
 use bgp_text::Lines;
 use bgp_tool::Status;
-use bgp_verdict_lines::VerdictLines;
 use mrt::{MemSink, Sink};
 use std::alloc::{AllocError, Allocator};
 

@@ -4,9 +4,9 @@ ghost use Rattle.std.specs.Prelude.{◌≡◌};
 ghost use Rattle.bgp_tool.specs.Status.{code_of};
 ghost use Rattle.bgp_check_lines.specs.Teller.{Starts, teller_status};
 
+use bgp_check_text::VerdictForm;
 use bgp_json_check::CheckTeller;
 use bgp_tool::Status;
-use bgp_verdict_lines::VerdictForm;
 
 /// Tells lines one after another, in one form.
 #[derive(Clone, Copy)]

@@ -11,8 +11,7 @@ ghost use Rattle.bgp_check_lines.specs.Values.{judged_end, unnamed_line, unnamed
 
 use crate::check_lines::CheckLines;
 use crate::teller::LineTeller;
-use bgp_check::{NotJudged, PeerAs};
-use bgp_check_text::{EndName, Reached, put_part_end};
+use bgp_check_text::{EndName, NotJudged, PeerAs, Reached, put_part_end};
 use bgp_json_check::{CheckVerdict, JudgedEnd};
 use bgp_judge::End;
 use bgp_text::Lines;

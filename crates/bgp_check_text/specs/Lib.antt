@@ -21,3 +21,11 @@ pub mod Unshown
 pub mod ItemTexts
 pub mod LinesKept
 pub mod Places
+pub use Rattle.bgp_explain.specs.Teller
+pub use Rattle.bgp_explain.specs.VerdictForm
+pub use Rattle.bgp_explain.specs.VerdictTeller
+pub use Rattle.bgp_ended.specs.EndedLine
+pub use Rattle.bgp_ended.specs.Stretch
+pub use Rattle.bgp_ended.specs.Values
+pub use Rattle.bgp_check.specs.declared.not_judged.NotJudged
+pub use Rattle.bgp_check.specs.declared.peer_as.PeerAs

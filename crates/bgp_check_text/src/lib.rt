@@ -54,7 +54,9 @@ mod unshown;
 // Where records stand, for who tells an end.
 pub use as_number::sent_as_number;
 pub use asking::asked_of;
-pub use bgp_explain::{NumberedRecord, Places, entry_place};
+pub use bgp_check::{NotJudged, PeerAs};
+pub use bgp_ended::{EndedStretch, Outline, ended_in, put_ended_stretch};
+pub use bgp_explain::{NumberedRecord, Places, VerdictForm, VerdictLines, entry_place};
 pub use end::{EndName, put_end, put_part_end};
 pub use framed_alike::are_framed_alike;
 pub use judge_line::{put_command, put_judge_line};

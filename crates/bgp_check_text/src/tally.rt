@@ -3,7 +3,7 @@
 ghost use Rattle.std.specs.Prelude.{◌≡◌, ◌+◌, ◌<◌};
 ghost use Rattle.bgp_judge.specs.Verdict.{verdict_value};
 ghost use Rattle.bgp_text.specs.Lines.{Writes};
-ghost use Rattle.bgp_tool.specs.Status.{code_of};
+ghost use Rattle.bgp_explain.specs.Status.{code_of};
 ghost use Rattle.bgp_check.specs.Answered.{answer_value};
 ghost use Rattle.bgp_check_text.specs.Tally.{has_verdict, is_empty, is_for_lack, is_incomplete};
 ghost use Rattle.bgp_check_text.specs.Tally.{has_trouble, last_text, no_tally, one_more};
@@ -11,9 +11,9 @@ ghost use Rattle.bgp_check_text.specs.Tally.{status_of, tally_line, with_end, wi
 ghost use Rattle.bgp_check_text.specs.Tally.{with_unjudged, with_verdict};
 
 use bgp_check::{Answer, NotJudged};
+use bgp_explain::Status;
 use bgp_judge::Verdict;
 use bgp_text::Lines;
-use bgp_tool::Status;
 use mrt::Sink;
 use std::alloc::Allocator;
 

@@ -1,7 +1,7 @@
 -- Marks are added one after another.
 use Rattle.std.proofs.Common.{◌≡◌, ◌∙◌, ◌++◌, ℕ, List, [], ◌∷◌, append-nil, append_assoc, ap, subst, sym}
 use Rattle.std.specs.List.{flat_map}
-use Rattle.bgp_check_text.specs.declared.quiet.Printing.{Printing}
+use Rattle.bgp_check_lines.specs.Printing.{Printing}
 use Rattle.bgp_check_tool.specs.Blocks.{Block}
 use Rattle.bgp_check_tool.specs.Marks.{AddsMarks, block_marks, marks_of}
 use Rattle.bgp_check_tool.specs.declared.marks.BothMarks.{BothMarks}

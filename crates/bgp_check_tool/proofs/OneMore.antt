@@ -12,7 +12,7 @@ use Rattle.bgp_check_lines.specs.Lines.{PutsLines}
 use Rattle.bgp_check_lines.specs.declared.check_lines.CheckLines.{CheckLines}
 use Rattle.bgp_check_lines.proofs.Puts.{then_lines}
 use Rattle.bgp_check_tool.specs.declared.options.CheckOptions.{CheckOptions}
-use Rattle.bgp_check_text.specs.declared.tally.Tally.{Tally}
+use Rattle.bgp_check_lines.specs.DeclaredTally.{Tally}
 use Rattle.bgp_prefix.specs.declared.session.Session.{Session}
 use Rattle.segments.specs.declared.found.Addresses.{Addresses}
 use Rattle.streams.specs.Clock.{AreInOrder}

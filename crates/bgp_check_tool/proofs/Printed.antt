@@ -25,14 +25,14 @@ use Rattle.bgp_check.specs.declared.not_judged.NotJudged.{NotJudged}
 use Rattle.bgp_check.specs.declared.peer_as.PeerAs.{PeerAs}
 use Rattle.bgp_ended.specs.Values.{OutlineValue}
 use Rattle.bgp_check.proofs.Under.{has_its_verdict}
-use Rattle.bgp_check_text.specs.Reached.{AreBeforeTo, ReachedValue}
-use Rattle.bgp_check_text.specs.Text.{no_line, not_judged_line, unfinished_line, yes_line, yes_lines}
-use Rattle.bgp_check_text.specs.declared.end.EndName.{EndName}
+use Rattle.bgp_check_lines.specs.Reached.{AreBeforeTo, ReachedValue}
+use Rattle.bgp_check_lines.specs.Text.{no_line, not_judged_line, unfinished_line, yes_line, yes_lines}
+use Rattle.bgp_check_lines.specs.EndName.{EndName}
 use Rattle.bgp_why.specs.declared.place.Place.{Place}
 use Rattle.bgp_parts.proofs.OneOwnOpen.{one_own}
 use Rattle.bgp_parts.specs.Opens.{HasOwnOpen}
-use Rattle.bgp_check_text.specs.Asked.{asked_of}
-use Rattle.bgp_check_text.specs.declared.options.Asked.{Asked}
+use Rattle.bgp_check_lines.specs.Asked.{asked_of}
+use Rattle.bgp_check_lines.specs.DeclaredAsked.{Asked}
 use Rattle.bgp_check_tool.specs.declared.options.CheckOptions.{CheckOptions}
 use Rattle.bgp_check_tool.specs.Blocks.{AllRefused, Block, BothEnds, OneEnd, Refused, TellsBoth}
 use Rattle.bgp_check_tool.specs.Another.{number_in}

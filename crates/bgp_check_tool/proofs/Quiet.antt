@@ -2,7 +2,7 @@
 use Rattle.std.proofs.Common.{◌≡◌, ◌++◌, ◌&&◌, ℕ, Bool, true, false, IsFalse, List, [], ◌∷◌, if◌then◌else◌, inl, inr, refl, sym, ap, append-nil, subst, not, arith}
 use Rattle.std.specs.List.{flat_map}
 use Rattle.bgp_list.specs.Connections.{connection_text, refused_between_text, refused_connection_text}
-use Rattle.bgp_check_text.specs.Quiet.{is_well}
+use Rattle.bgp_check_lines.specs.Quiet.{is_well}
 use Rattle.bgp_check_tool.specs.Blocks.{AllRefused, BothEnds, OneEnd, Refused, neither_text}
 use Rattle.bgp_check_tool.specs.Quiet.{QuietKeepsTrouble}
 use Rattle.bgp_check_tool.specs.Text.{told_lines}

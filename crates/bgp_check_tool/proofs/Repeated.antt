@@ -14,10 +14,10 @@ use Rattle.bgp_recording.specs.declared.entry.Entry.{Entry}
 use Rattle.bgp_recording.specs.declared.framing.Unshown.{Unshown}
 use Rattle.bgp_check.specs.Answered.{AnswerValue, HasItsVerdict, IsAnswerTo, IsJudged, JudgedAs}
 use Rattle.bgp_check.specs.declared.peer_as.PeerAs.{PeerAs}
-use Rattle.bgp_check_text.specs.ReadAlike.{AreOptionsOf, IsReadAlike, framings_by}
-use Rattle.bgp_check_text.specs.declared.options.Asked.{Asked}
-use Rattle.bgp_check_text.specs.declared.options.JudgeOptions.{JudgeOptions}
-use Rattle.bgp_check_text.specs.Settings.{are_told}
+use Rattle.bgp_check_lines.specs.ReadAlike.{AreOptionsOf, IsReadAlike, framings_by}
+use Rattle.bgp_check_lines.specs.DeclaredAsked.{Asked}
+use Rattle.bgp_check_lines.specs.JudgeOptions.{JudgeOptions}
+use Rattle.bgp_check_lines.specs.Settings.{are_told}
 use Rattle.bgp_check_tool.specs.Judging.{AreOptionsFor, AreOptionsTo}
 use Rattle.bgp_check_tool.specs.About.{IsAbout}
 use Rattle.bgp_check_tool.specs.Another.{number_in}

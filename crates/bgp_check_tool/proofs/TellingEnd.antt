@@ -17,12 +17,12 @@ use Rattle.bgp_orders.proofs.Entries.{entries_show_the_way}
 use Rattle.bgp_check.specs.Answered.{AnswerValue, IsAnswerTo, JudgedAs, Unjudged}
 use Rattle.bgp_check.specs.Stretch.{IsStretch}
 use Rattle.bgp_check.specs.declared.peer_as.PeerAs.{PeerAs}
-use Rattle.bgp_check_text.specs.Reached.{IsReached, ReachedValue}
-use Rattle.bgp_check_text.specs.Reason.{IsReasonTo}
-use Rattle.bgp_check_text.specs.Places.{shown_places}
+use Rattle.bgp_check_lines.specs.Reached.{IsReached, ReachedValue}
+use Rattle.bgp_check_lines.specs.CheckTextReason.{IsReasonTo}
+use Rattle.bgp_check_lines.specs.Places.{shown_places}
 use Rattle.bgp_import.specs.Captures.{put_off}
-use Rattle.bgp_check_text.specs.declared.options.Asked.{Asked}
-use Rattle.bgp_check_text.specs.declared.options.JudgeOptions.{JudgeOptions}
+use Rattle.bgp_check_lines.specs.DeclaredAsked.{Asked}
+use Rattle.bgp_check_lines.specs.JudgeOptions.{JudgeOptions}
 use Rattle.bgp_check_tool.specs.declared.options.CheckOptions.{CheckOptions}
 use Rattle.bgp_check_tool.specs.declared.late.Late.{Late}
 use Rattle.bgp_check_tool.specs.About.{IsAbout}
@@ -30,7 +30,7 @@ use Rattle.bgp_check_tool.specs.Another.{IsNo, IsYes}
 use Rattle.bgp_check_tool.specs.Late.{IsLate}
 use Rattle.bgp_check_tool.specs.Orders.{IsFoundTo, IsKnown, IsUnexplained, IsUnfinished}
 use Rattle.bgp_check_tool.specs.Told.{EndTold, IsOfAll, IsOfAnother, IsOfMade, IsTold, peer_end, place_of}
-use Rattle.bgp_check_text.specs.AsNumber.{HasAsNumber}
+use Rattle.bgp_check_lines.specs.AsNumber.{HasAsNumber}
 use Rattle.bgp_check_tool.specs.Elsewhere.{IsOther, in_made}
 use Rattle.bgp_wire.specs.declared.header.Limit.{Limit}
 use Rattle.bgp_why.specs.declared.endpoint.Endpoint.{Endpoint as PeerEnd}

@@ -2,7 +2,7 @@
 use Rattle.std.proofs.Common.{◌≡◌, ◌∙◌, ◌⊎◌, ℕ, Bool, IsFalse, IsTrue, inl, inr, refl}
 use Rattle.bgp_prefix.specs.declared.session.Session.{Session}
 use Rattle.streams.specs.declared.connection.Opening.{Opening}
-use Rattle.bgp_check_text.specs.declared.quiet.Printing.{Printing}
+use Rattle.bgp_check_lines.specs.Printing.{Printing}
 use Rattle.bgp_check_tool.specs.Blocks.{block_text, ends_block, ends_text}
 use Rattle.bgp_check_tool.specs.declared.connection.EndsTold.{EndsTold}
 use Rattle.bgp_check_tool.specs.declared.connection.EndsTold.TheVariants.{Both, One}

@@ -20,8 +20,8 @@ use Rattle.bgp_check.specs.NotJudged.{IsWhyNot, SendsSome, why_not}
 use Rattle.bgp_check.specs.Over.{HasVerdictOver}
 use Rattle.bgp_check.specs.WidestMade.{IsFaultless}
 use Rattle.bgp_parts.proofs.OneOwnOpen.{one_own}
-use Rattle.bgp_check_text.specs.Asked.{asked_of}
-use Rattle.bgp_check_text.specs.declared.options.Asked.{Asked}
+use Rattle.bgp_check_lines.specs.Asked.{asked_of}
+use Rattle.bgp_check_lines.specs.DeclaredAsked.{Asked}
 use Rattle.streams.specs.Connections.{numbered}
 use Rattle.bgp_check_tool.specs.declared.options.CheckOptions.{CheckOptions}
 use Rattle.bgp_check_tool.specs.Headline.{IsToldOfSide, NoConfigurationHasARun, NoOrderHasARun, NoneIsWhole, NothingIsVacuous, ToldNoHasNoRun, VerdictIsOverAll}

@@ -1,8 +1,9 @@
 -- What is told of an end in another order than the made one, or over all of them.
-use Rattle.std.specs.Prelude.{◌≡◌, ℕ, Option, None, map}
+use Rattle.std.specs.Prelude.{◌≡◌, ◌⊎◌, ℕ, Option, None, map}
 use Rattle.bgp_prefix.specs.declared.session.Session.{Session}
 use Rattle.mrt.specs.Reader.{shown_of}
 use Rattle.streams.specs.declared.connection.Connection.{Connection}
+use Rattle.bgp_open.specs.declared.config.Config.{Config}
 use Rattle.bgp_judge.specs.Verdict.{No, Unfinished, Yes}
 use Rattle.bgp_recording.specs.Captured.{records_of}
 use Rattle.bgp_recording.specs.declared.framing.Framings.{Framings}
@@ -10,7 +11,10 @@ use Rattle.bgp_orders.specs.WholeWays.{AreOfAWayOver}
 use Rattle.bgp_check.specs.Answered.{AnswerValue, IsAnswerTo, JudgedAs, Unjudged, answer_value}
 use Rattle.bgp_check_tool.specs.declared.another.Searched.{Searched}
 use Rattle.bgp_check_tool.specs.declared.another.Searched.TheVariants as searches
-use Rattle.bgp_check_tool.specs.Orders.{IsUnexplained, IsUnfinished}
+use Rattle.bgp_check_tool.specs.declared.orders.NoOrder.{NoOrder}
+use Rattle.bgp_check_tool.specs.declared.orders.TooLong.{TooLong}
+use Rattle.bgp_check_tool.specs.Orders.{IsOfNoFamily, IsTooLongOver, IsUnexplained, IsUnfinished}
+use Rattle.bgp_check_tool.specs.Orders.{IsWholeOver}
 
 -- ---- answers
 
@@ -53,7 +57,8 @@ number_in (JudgedAs number peer under verdict) = number
 -- and of what is unfinished. Of another order the answer on its records is kept, and is a yes.
 abbrev pub IsSought : {X : Type 0} → Session → AnswerValue → Searched X → Type 0
 IsSought session answer searches.Nothing = Unit {0}
-IsSought session answer (searches.TooLong known) = Unit {0}
+IsSought session answer searches.NoMemory = IsNoYes answer
+IsSought session answer (searches.TooLong its) = IsNoYes answer
 IsSought session answer (searches.NoOrder found) = IsNo answer
 IsSought session answer (searches.Unfinished its) = IsNo answer
 IsSought session answer (searches.AsMade its) = IsLeft answer
@@ -64,17 +69,33 @@ IsSought session answer (searches.Another another) =
     (answer_value another.answer)
     × IsYes (answer_value another.answer)
 
--- the other order is one that the packets allow
-abbrev pub IsFound : {X : Type 0} → Session → ℕ → Framings → Connection → Searched X
-    → Type 0
-IsFound session within framings connection searches.Nothing = Unit {0}
-IsFound session within framings connection (searches.TooLong known) = Unit {0}
-IsFound session within framings connection (searches.NoOrder found) =
+-- Over all orders nothing is found that replaces this answer on the made one: it is a yes
+-- or none is judged; or some order is whole under a widest configuration, and the records of such a
+-- one aren't judged with a yes; or no order explains a sent message, where the made one is
+-- unfinished; or the end has no widest configuration.
+abbrev pub IsNothing : Session → ℕ → Framings → Connection → AnswerValue → Type 0
+IsNothing session within framings connection answer =
+    (¬ IsNoYes answer)
+    ⊎ ((config : Config) × IsWholeOver session within framings connection config)
+    ⊎ (IsLeft answer
+    × ((found : NoOrder) × IsUnexplained session within framings connection found))
+    ⊎ IsOfNoFamily session within framings connection
+
+-- The other order is one that the packets allow. If memory is refused nothing is found, and if the
+-- search is too long, as was known under these configurations or is found.
+abbrev pub IsFound : {X : Type 0} → Session → ℕ → Framings → Connection → TooLong → AnswerValue
+    → Searched X → Type 0
+IsFound session within framings connection known answer searches.Nothing =
+    IsNothing session within framings connection answer
+IsFound session within framings connection known answer searches.NoMemory = Unit {0}
+IsFound session within framings connection known answer (searches.TooLong its) =
+    IsTooLongOver session within framings connection known
+IsFound session within framings connection known answer (searches.NoOrder found) =
     IsUnexplained session within framings connection found
-IsFound session within framings connection (searches.Unfinished its) =
+IsFound session within framings connection known answer (searches.Unfinished its) =
     IsUnfinished session within framings connection its.peer_as its.under
-IsFound session within framings connection (searches.AsMade its) =
+IsFound session within framings connection known answer (searches.AsMade its) =
     IsUnfinished session within framings connection its.peer_as its.under
-IsFound session within framings connection (searches.Another another) =
+IsFound session within framings connection known answer (searches.Another another) =
     AreOfAWayOver framings within connection another.recording.entries.items
     another.recording.received another.recording.sent

@@ -20,12 +20,12 @@ use Rattle.bgp_list.specs.Connections.{connection_text, refused_between_text}
 use Rattle.bgp_list.specs.Connections.{refused_connection_text}
 use Rattle.bgp_ended.specs.Outline.{IsOutlineOf}
 use Rattle.bgp_ended.specs.Values.{OutlineValue, outline_value}
-use Rattle.bgp_check_text.specs.Asked.{asked_of}
-use Rattle.bgp_check_text.specs.declared.options.Asked.{Asked}
+use Rattle.bgp_check_lines.specs.Asked.{asked_of}
+use Rattle.bgp_check_lines.specs.DeclaredAsked.{Asked}
 use Rattle.bgp_check_tool.specs.declared.connection.EndsTold.{EndsTold}
 use Rattle.bgp_check_tool.specs.declared.connection.EndsTold.TheVariants as ends
-use Rattle.bgp_check_text.specs.Quiet.{is_left_out}
-use Rattle.bgp_check_text.specs.declared.quiet.Printing.{Printing}
+use Rattle.bgp_check_lines.specs.Quiet.{is_left_out}
+use Rattle.bgp_check_lines.specs.Printing.{Printing}
 use Rattle.bgp_check_tool.specs.declared.options.CheckOptions.{CheckOptions}
 use Rattle.bgp_check_tool.specs.Text.{one_end_line, told_lines}
 use Rattle.bgp_check_tool.specs.Told.{EndTold, IsEndTold, told_value}

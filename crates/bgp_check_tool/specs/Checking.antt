@@ -15,10 +15,10 @@ use Rattle.bgp_check_lines.specs.declared.check_lines.CheckLines.{CheckLines}
 use Rattle.bgp_import.specs.declared.cut_short.CutShort.{CutShort}
 use Rattle.bgp_import.specs.declared.refusal.Refusal.{Refusal}
 use Rattle.bgp_import.specs.declared.refusal.Refusal.TheVariants as refusals
-use Rattle.bgp_check_text.specs.Tally.{has_verdict, is_empty, is_incomplete, no_tally, status_of}
-use Rattle.bgp_check_text.specs.Tally.{last_text}
-use Rattle.bgp_check_text.specs.declared.quiet.Printing.{Printing}
-use Rattle.bgp_check_text.specs.declared.tally.Tally.{Tally}
+use Rattle.bgp_check_lines.specs.Tally.{has_verdict, is_empty, is_incomplete, no_tally, status_of}
+use Rattle.bgp_check_lines.specs.Tally.{last_text}
+use Rattle.bgp_check_lines.specs.Printing.{Printing}
+use Rattle.bgp_check_lines.specs.DeclaredTally.{Tally}
 use Rattle.bgp_check_tool.specs.declared.nothing.NothingJudged.{NothingJudged}
 use Rattle.bgp_check_tool.specs.declared.options.CheckOptions.{CheckOptions}
 use Rattle.bgp_import.specs.declared.talks.Talks.{Talks}

@@ -4,8 +4,8 @@ use Rattle.bgp_import.specs.Refusals.{cause_of}
 use Rattle.bgp_import.specs.declared.refusal.Cause.{Cause}
 use Rattle.bgp_import.specs.declared.refusal.Cause.TheVariants as causes
 use Rattle.bgp_import.specs.declared.refusal.Refusal.{Refusal}
-use Rattle.bgp_check_text.specs.Tally.{with_end, with_refusal, with_unjudged}
-use Rattle.bgp_check_text.specs.declared.tally.Tally.{Tally}
+use Rattle.bgp_check_lines.specs.Tally.{with_end, with_refusal, with_unjudged}
+use Rattle.bgp_check_lines.specs.DeclaredTally.{Tally}
 use Rattle.bgp_check_tool.specs.Blocks.{Block, BothEnds, OneEnd, Refused, AllRefused}
 
 -- the exit status of a refusal by itself

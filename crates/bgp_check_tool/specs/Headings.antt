@@ -12,7 +12,7 @@ use Rattle.bgp_import.specs.declared.refusal.Refusal.TheVariants as refusals
 use Rattle.bgp_list.specs.Lines.{IsLineAt, LineValue, line_text}
 use Rattle.bgp_list.specs.Lines as lines
 use Rattle.bgp_list.specs.Recording.{lines_text}
-use Rattle.bgp_check_text.specs.declared.quiet.Printing.{Printing}
+use Rattle.bgp_check_lines.specs.Printing.{Printing}
 use Rattle.bgp_check_tool.specs.declared.options.CheckOptions.{CheckOptions}
 use Rattle.bgp_check_tool.specs.Blocks.{AllRefused, Block, BothEnds, OneEnd, Refused}
 use Rattle.bgp_check_tool.specs.Checking.{blocks_text}

@@ -26,7 +26,7 @@ use Rattle.bgp_check.specs.Stretch.{IsStretch}
 use Rattle.bgp_check.specs.WidestMade.{IsFaultless}
 use Rattle.bgp_check.specs.declared.peer_as.PeerAs.{PeerAs}
 use Rattle.bgp_ended.specs.Values.{OutlineValue}
-use Rattle.bgp_check_text.specs.declared.options.Asked.{Asked}
+use Rattle.bgp_check_lines.specs.DeclaredAsked.{Asked}
 use Rattle.bgp_check_tool.specs.declared.another.Order.TheVariants as orders
 use Rattle.bgp_check_tool.specs.declared.options.CheckOptions.{CheckOptions}
 use Rattle.bgp_check_tool.specs.Blocks.{BothEnds}

@@ -7,15 +7,15 @@ use Rattle.bgp_recording.specs.declared.entry.Entry.{Entry}
 use Rattle.bgp_recording.specs.declared.framing.Unshown.{Unshown}
 use Rattle.bgp_import.specs.declared.refusal.Refusal.{Refusal}
 use Rattle.bgp_check.specs.Answered.{AnswerValue, JudgedAs, Unjudged}
-use Rattle.bgp_check_text.specs.OwnFaults.{IsToldConfiguration}
-use Rattle.bgp_check_text.specs.JudgeLine.{judge_line}
-use Rattle.bgp_check_text.specs.ReadAlike.{AreJudgeOptions}
-use Rattle.bgp_check_text.specs.declared.options.Asked.{Asked}
-use Rattle.bgp_check_text.specs.declared.options.JudgeOptions.{JudgeOptions}
+use Rattle.bgp_check_lines.specs.OwnFaults.{IsToldConfiguration}
+use Rattle.bgp_check_lines.specs.JudgeLine.{judge_line}
+use Rattle.bgp_check_lines.specs.ReadAlike.{AreJudgeOptions}
+use Rattle.bgp_check_lines.specs.DeclaredAsked.{Asked}
+use Rattle.bgp_check_lines.specs.JudgeOptions.{JudgeOptions}
 use Rattle.bgp_check_tool.specs.declared.options.CheckOptions.{CheckOptions}
-use Rattle.bgp_check_text.specs.Settings.{are_told}
-use Rattle.bgp_check_text.specs.declared.settings.Settings.{Settings}
-use Rattle.bgp_check_text.specs.declared.settings.Settings.TheVariants as told
+use Rattle.bgp_check_lines.specs.Settings.{are_told}
+use Rattle.bgp_check_lines.specs.DeclaredSettings.{Settings}
+use Rattle.bgp_check_lines.specs.DeclaredSettings.TheVariants as told
 
 -- ---- after which verdicts its options are told
 

@@ -4,8 +4,8 @@ use Rattle.std.specs.Prelude.{if◌then◌else◌}
 use Rattle.std.specs.List.{flat_map}
 use Rattle.bgp_judge.specs.Verdict.{No, Unfinished, VerdictValue, Yes}
 use Rattle.bgp_check.specs.Answered.{AnswerValue, JudgedAs, Unjudged}
-use Rattle.bgp_check_text.specs.Quiet.{is_left_out}
-use Rattle.bgp_check_text.specs.declared.quiet.Printing.{Printing}
+use Rattle.bgp_check_lines.specs.Quiet.{is_left_out}
+use Rattle.bgp_check_lines.specs.Printing.{Printing}
 use Rattle.bgp_check_tool.specs.declared.another.Order.{Order}
 use Rattle.bgp_check_tool.specs.declared.marks.BothMarks.{BothMarks}
 use Rattle.bgp_check_tool.specs.declared.marks.EndMark.{EndMark}

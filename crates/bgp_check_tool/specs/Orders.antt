@@ -1,6 +1,6 @@
 -- What all orders say that the packets allow, of an end whose verdict in the made order isn't a
 -- yes: the verdict over all of them, under the widest configurations of the end.
-use Rattle.std.specs.Prelude.{◌≡◌, ◌+◌, ◌<◌, ℕ, Bool, true, false, List, Option, None}
+use Rattle.std.specs.Prelude.{◌≡◌, ◌⊎◌, ◌+◌, ◌<◌, ℕ, Bool, true, false, List, Option, None}
 use Rattle.std.specs.Prelude.{Some, IfSome, length, map, nat_lt, option_map, slice_get, take}
 use Rattle.bgp_prefix.specs.Shown as shown
 use Rattle.bgp_prefix.specs.Shown.{ShownRecord}
@@ -18,6 +18,7 @@ use Rattle.bgp_recording.specs.declared.ordering.Exchange.{Exchange}
 use Rattle.bgp_orders.specs.Connections.{IsPacketOf, TellsConnection}
 use Rattle.bgp_orders.specs.Explained.{HasVerdictOver, IsExplained, IsWhole, VerdictOver}
 use Rattle.bgp_orders.specs.Explained.{Yes, No, Unfinished}
+use Rattle.bgp_orders.specs.Many.{AreTooMany}
 use Rattle.bgp_orders.specs.Rows.{IsAnswer}
 use Rattle.bgp_orders.specs.declared.connection.Unexplained.{Unexplained}
 use Rattle.bgp_orders.specs.declared.explained.Explained.{Explained}
@@ -28,13 +29,14 @@ use Rattle.bgp_check.specs.Answered.{peer_as_by}
 use Rattle.bgp_check.specs.Checked.{IsUnder}
 use Rattle.bgp_check.specs.Configurations.{IsOf}
 use Rattle.bgp_check.specs.WidestMade.{IsFaultless, configurations_of}
-use Rattle.bgp_check.specs.WidestOf.{AreTold, parts_of, widest_of}
+use Rattle.bgp_check.specs.WidestOf.{AreTold, OffersNone, parts_of, widest_of}
 use Rattle.bgp_check.specs.declared.own_fault.OwnFault.{OwnFault}
 use Rattle.bgp_check.specs.declared.peer_as.PeerAs.{PeerAs}
 use Rattle.bgp_check.specs.declared.widest.Widest.{Widest}
 use Rattle.bgp_check_tool.specs.declared.orders.NoOrder.{NoOrder}
 use Rattle.bgp_check_tool.specs.declared.orders.Said.{Said}
 use Rattle.bgp_check_tool.specs.declared.orders.Said.TheVariants as said
+use Rattle.bgp_check_tool.specs.declared.orders.TooLong.{TooLong}
 
 -- ---- messages
 
@@ -82,23 +84,32 @@ tells_other (answers.All false) other = false
 tells_other one (answers.All false) = true
 tells_other (answers.Only count) (answers.Only later) = nat_lt count later
 
--- what the search answers under a configuration, if it isn't too long or isn't made
-abbrev pub IsAnswerUnless : Config → ℕ → Exchange → Explained → Type 0
-IsAnswerUnless config within exchange (answers.All is_whole) =
-    IsAnswer config within exchange (answers.All is_whole)
-IsAnswerUnless config within exchange (answers.Only count) =
-    IsAnswer config within exchange (answers.Only count)
-IsAnswerUnless config within exchange answers.TooMany = Unit {0}
+-- under the one of both widest configurations the search is known to be too long
+abbrev pub known_of : TooLong → Bool → Bool
+known_of known true = known.wanting
+known_of known false = known.another
 
--- This is answered under that configuration. Of an order that is whole nothing is said: its records
--- are judged.
-abbrev pub IsSaidOver : Widest → ℕ → Exchange → Bool → Config → Explained → Type 0
-IsSaidOver widest within exchange wants under (answers.All true) = Unit {0}
-IsSaidOver widest within exchange wants under (answers.All false) =
+-- what the search answers under a configuration; if it is known to be too long, it isn't made
+abbrev pub IsAnswerUnless : Bool → Config → ℕ → Exchange → Explained → Type 0
+IsAnswerUnless too_long config within exchange (answers.All is_whole) =
+    IsAnswer config within exchange (answers.All is_whole)
+IsAnswerUnless too_long config within exchange (answers.Only count) =
+    IsAnswer config within exchange (answers.Only count)
+IsAnswerUnless too_long config within exchange answers.TooMany =
+    (too_long ≡ true) ⊎ AreTooMany config within exchange
+
+-- This is answered under that configuration, one of both. That some order is whole under it is no
+-- verdict yet: its records are judged.
+abbrev pub IsSaidOver : Widest → ℕ → Exchange → TooLong → Bool → Config → Explained → Type 0
+IsSaidOver widest within exchange known wants under (answers.All true) =
+    IsUnder widest wants under × HasVerdictOver under within exchange Yes
+IsSaidOver widest within exchange known wants under (answers.All false) =
     IsToldOver widest within exchange wants under Unfinished
-IsSaidOver widest within exchange wants under (answers.Only count) =
+IsSaidOver widest within exchange known wants under (answers.Only count) =
     IsToldOver widest within exchange wants under (No count)
-IsSaidOver widest within exchange wants under answers.TooMany = Unit {0}
+IsSaidOver widest within exchange known wants under answers.TooMany =
+    IsUnder widest wants under
+    × ((known_of known wants ≡ true) ⊎ AreTooMany under within exchange)
 
 -- the OPENs that are told with such a message: the end's, and its peer's
 abbrev pub own_of : NoOrder → Option (List ℕ)
@@ -107,19 +118,26 @@ own_of found = option_map (λ octets. octets.now) found.own
 abbrev pub peers_of : NoOrder → Option (List ℕ)
 peers_of found = option_map (λ octets. octets.now) found.peers
 
+-- a sent message would be the first that isn't explained, and there is none in its place
+abbrev pub IsNoMessage : Exchange → Explained → Type 0
+IsNoMessage exchange (answers.All is_whole) = ⊥
+IsNoMessage exchange (answers.Only count) = slice_get exchange.sent.now count ≡ None
+IsNoMessage exchange answers.TooMany = ⊥
+
 -- What the answer under that configuration, which is for this peer, says: of a no with its message,
 -- the configuration, and these OPENs.
 abbrev pub IsSaidBy : Exchange → Option (List ℕ) → Option (List ℕ) → PeerAs → Config → Explained
     → Said → Type 0
-IsSaidBy exchange own peers peer under explained (said.Whole config) = Unit {0}
+IsSaidBy exchange own peers peer under explained (said.Whole config) =
+    (explained ≡ answers.All true) × (config ≡ under)
 IsSaidBy exchange own peers peer under explained (said.NoOrder found) =
     (explained ≡ answers.Only found.unexplained.before) × IsMessageOf exchange found
     × (found.its.peer_as ≡ peer) × (found.its.under ≡ under)
     × (own_of found ≡ own) × (peers_of found ≡ peers)
 IsSaidBy exchange own peers peer under explained (said.Unfinished its) =
     (explained ≡ answers.All false) × (its.peer_as ≡ peer) × (its.under ≡ under)
-IsSaidBy exchange own peers peer under explained (said.TooLong known) = Unit {0}
-IsSaidBy exchange own peers peer under explained said.Neither = Unit {0}
+IsSaidBy exchange own peers peer under explained (said.TooLong its) = explained ≡ answers.TooMany
+IsSaidBy exchange own peers peer under explained said.Neither = IsNoMessage exchange explained
 
 -- The local system of a session that has the connection so, framed so, where a received message is
 -- handled within so many seconds after it came.
@@ -165,13 +183,48 @@ module _ (session : Session) (within : ℕ) (framings : Framings) (connection : 
   IsKnown false = Unit {0}
   IsKnown true = (peer : PeerAs) × (under : Config) × IsUnfinished peer under
 
-  -- what the search says
-  abbrev pub IsSaid : Said → Type 0
-  IsSaid (said.Whole config) = Unit {0}
-  IsSaid (said.NoOrder found) = IsUnexplained found
-  IsSaid (said.Unfinished its) = IsUnfinished its.peer_as its.under
-  IsSaid (said.TooLong known) = Unit {0}
-  IsSaid said.Neither = Unit {0}
+  -- This is so of one of its widest configurations, by the same OPENs.
+  pub record IsOfWidest (Is : Exchange → Bool → Config → Type 0) : Type 0 where
+    pub exchange : Exchange
+    pub tells : TellsConnection framings connection exchange
+    pub own : Option (List ℕ)
+    pub peers : Option (List ℕ)
+    pub told : Option OpenFields
+    pub widest : Widest
+    pub has_own : HasOwnOpen (records_sent exchange.sent.now) own
+    pub has_peers : HasPeersOpen (records_received exchange.received.now) peers
+    pub are_told : AreTold peers told
+    pub made : parts_of widest ≡ widest_of session (option_map open_of own) told
+    pub wants : Bool
+    pub under : Config
+    pub is_under : IsUnder widest wants under
+    pub is_so : Is exchange wants under
+
+  -- some order is whole under this one
+  abbrev pub IsWholeOver : Config → Type 0
+  IsWholeOver config = IsOfWidest
+      (λ exchange wants under. (config ≡ under) × HasVerdictOver under within exchange Yes)
+
+  -- there are too many nodes under one of them, or that was known before
+  abbrev pub IsTooLongOver : TooLong → Type 0
+  IsTooLongOver known = IsOfWidest (λ exchange wants under.
+      (known_of known wants ≡ true) ⊎ AreTooMany under within exchange)
+
+  -- the OPEN that it sent offers neither family, so that it has no widest configuration
+  pub record IsOfNoFamily : Type 0 where
+    pub exchange : Exchange
+    pub tells : TellsConnection framings connection exchange
+    pub own : Option (List ℕ)
+    pub has_own : HasOwnOpen (records_sent exchange.sent.now) own
+    pub offers : OffersNone own
+
+  -- what the search says, which is known to be too long under these configurations
+  abbrev pub IsSaid : TooLong → Said → Type 0
+  IsSaid known (said.Whole config) = IsWholeOver config
+  IsSaid known (said.NoOrder found) = IsUnexplained found
+  IsSaid known (said.Unfinished its) = IsUnfinished its.peer_as its.under
+  IsSaid known (said.TooLong its) = IsTooLongOver known
+  IsSaid known said.Neither = IsOfNoFamily
 
   -- such a message is found of a no alone; that none is found says nothing
   abbrev pub IsFoundFor : VerdictValue → Option NoOrder → Type 0

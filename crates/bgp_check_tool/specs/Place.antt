@@ -4,7 +4,7 @@ use Rattle.std.specs.Prelude.{length, option_map, slice_get, unwrap_or}
 use Rattle.bgp_prefix.specs.Shown.{second_of}
 use Rattle.mrt.specs.Reader.{shown_of}
 use Rattle.bgp_recording.specs.declared.entry.Entry.{Entry}
-use Rattle.bgp_check_text.specs.Places.{entry_place, place_with}
+use Rattle.bgp_check_lines.specs.Places.{entry_place, place_with}
 use Rattle.bgp_why.specs.declared.place.Place.{Place}
 use Rattle.bgp_check_tool.specs.declared.orders.NoOrder.{NoOrder}
 

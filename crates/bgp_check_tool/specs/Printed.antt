@@ -32,11 +32,11 @@ use Rattle.bgp_check.specs.declared.own_fault.OwnFault.{OwnFault}
 use Rattle.bgp_check.specs.declared.peer_as.PeerAs.{PeerAs}
 use Rattle.bgp_ended.specs.Offered.{with_both_offers}
 use Rattle.bgp_ended.specs.Values.{OutlineValue}
-use Rattle.bgp_check_text.specs.Tally.{last_text, status_of}
-use Rattle.bgp_check_text.specs.AsNumber.{HasAsNumber}
-use Rattle.bgp_check_text.specs.Reached.{AreBeforeOf, counts_of}
-use Rattle.bgp_check_text.specs.Text.{no_line, unfinished_line, yes_lines}
-use Rattle.bgp_check_text.specs.declared.tally.Tally.{Tally}
+use Rattle.bgp_check_lines.specs.Tally.{last_text, status_of}
+use Rattle.bgp_check_lines.specs.AsNumber.{HasAsNumber}
+use Rattle.bgp_check_lines.specs.Reached.{AreBeforeOf, counts_of}
+use Rattle.bgp_check_lines.specs.Text.{no_line, unfinished_line, yes_lines}
+use Rattle.bgp_check_lines.specs.DeclaredTally.{Tally}
 use Rattle.bgp_import.specs.Pairs.{session_of}
 use Rattle.bgp_import.specs.Places.{HasConnection}
 use Rattle.bgp_import.specs.Reading.{IsReadTo, looked_at}

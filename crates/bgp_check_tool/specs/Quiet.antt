@@ -3,8 +3,8 @@ use Rattle.std.specs.Prelude.{◌≡◌, ◌⊎◌, ℕ, Bool, true, false, IsFa
 use Rattle.std.specs.Prelude.{if◌then◌else◌}
 use Rattle.std.specs.List.{Contains, flat_map}
 use Rattle.bgp_import.specs.declared.refusal.Refusal.{Refusal}
-use Rattle.bgp_check_text.specs.Quiet.{is_well}
-use Rattle.bgp_check_text.specs.declared.quiet.Printing.{Printing}
+use Rattle.bgp_check_lines.specs.Quiet.{is_well}
+use Rattle.bgp_check_lines.specs.Printing.{Printing}
 use Rattle.bgp_check_tool.specs.Blocks.{AllRefused, Block, BothEnds, OneEnd, Refused, block_text}
 use Rattle.bgp_check_tool.specs.Blocks.{refusal_in}
 use Rattle.bgp_check_tool.specs.Text.{told_lines}

@@ -16,9 +16,9 @@ use Rattle.bgp_recording.specs.declared.framing.Framings.{Framings}
 use Rattle.bgp_recording.specs.declared.ordering.Exchange.{Exchange}
 use Rattle.bgp_check.specs.Answered.{JudgedAs}
 use Rattle.bgp_check.specs.declared.peer_as.PeerAs.{PeerAs}
-use Rattle.bgp_check_text.specs.ReadAlike.{IsReadAlike, framings_by}
-use Rattle.bgp_check_text.specs.declared.options.Asked.{Asked}
-use Rattle.bgp_check_text.specs.declared.options.JudgeOptions.{JudgeOptions}
+use Rattle.bgp_check_lines.specs.ReadAlike.{IsReadAlike, framings_by}
+use Rattle.bgp_check_lines.specs.DeclaredAsked.{Asked}
+use Rattle.bgp_check_lines.specs.JudgeOptions.{JudgeOptions}
 use Rattle.bgp_check_tool.specs.declared.options.CheckOptions.{CheckOptions}
 use Rattle.bgp_check_tool.specs.Seen.{seen_from}
 use Rattle.bgp_check_tool.specs.declared.orders.NoOrder.{NoOrder}

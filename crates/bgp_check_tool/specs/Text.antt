@@ -7,9 +7,9 @@ use Rattle.bgp_check.specs.declared.peer_as.PeerAs.{PeerAs}
 use Rattle.bgp_check.specs.Answered.{AnswerValue, JudgedAs, Unjudged}
 use Rattle.bgp_check_lines.specs.Values.{all_orders_line, another_order_line, in_made_order_line}
 use Rattle.bgp_check_lines.specs.Values.{one_order_line}
-use Rattle.bgp_check_text.specs.Text.{no_line, not_judged_line, unfinished_line, yes_lines}
-use Rattle.bgp_check_text.specs.Unshown.{unshown_notes}
-use Rattle.bgp_check_text.specs.declared.end.EndName.{EndName}
+use Rattle.bgp_check_lines.specs.Text.{no_line, not_judged_line, unfinished_line, yes_lines}
+use Rattle.bgp_check_lines.specs.Unshown.{unshown_notes}
+use Rattle.bgp_check_lines.specs.EndName.{EndName}
 use Rattle.bgp_why.specs.Endpoint.{endpoint_text}
 use Rattle.bgp_why.specs.declared.endpoint.Endpoint.{Endpoint as NamedEnd}
 use Rattle.bgp_why.specs.declared.place.Place.{Place}

@@ -15,13 +15,13 @@ use Rattle.bgp_import.specs.ListText.{end_of}
 use Rattle.bgp_open.specs.declared.config.Config.{Config}
 use Rattle.bgp_check.specs.Answered.{AnswerValue, IsAnswerTo, JudgedAs, Unjudged, answer_value}
 use Rattle.bgp_check.specs.declared.peer_as.PeerAs.{PeerAs}
-use Rattle.bgp_check_text.specs.AsNumber.{HasAsNumber}
-use Rattle.bgp_check_text.specs.Reason.{IsReasonTo, deed_text, lines_text}
-use Rattle.bgp_check_text.specs.Places.{shown_places}
-use Rattle.bgp_check_text.specs.Reached.{IsReached, ReachedValue, reached_value}
+use Rattle.bgp_check_lines.specs.AsNumber.{HasAsNumber}
+use Rattle.bgp_check_lines.specs.CheckTextReason.{IsReasonTo, deed_text, lines_text}
+use Rattle.bgp_check_lines.specs.Places.{shown_places}
+use Rattle.bgp_check_lines.specs.Reached.{IsReached, ReachedValue, reached_value}
 use Rattle.bgp_check_tool.specs.declared.ending.Told.{Told}
-use Rattle.bgp_check_text.specs.declared.options.Asked.{Asked}
-use Rattle.bgp_check_text.specs.declared.options.JudgeOptions.{JudgeOptions}
+use Rattle.bgp_check_lines.specs.DeclaredAsked.{Asked}
+use Rattle.bgp_check_lines.specs.JudgeOptions.{JudgeOptions}
 use Rattle.bgp_check_tool.specs.declared.options.CheckOptions.{CheckOptions}
 use Rattle.bgp_check_tool.specs.declared.another.Order.{Order}
 use Rattle.bgp_check_tool.specs.declared.another.Order.TheVariants as orders

@@ -1,6 +1,6 @@
 //! A yes of an end in another order than the made one, which the packets allow, too.
 
-ghost use Rattle.std.specs.Prelude.{◌≡◌, ◌↔◌, IfSome, IsTrue, map};
+ghost use Rattle.std.specs.Prelude.{◌≡◌, ◌↔◌, IfOk, IfSome, IsTrue, map};
 ghost use Rattle.mrt.specs.Reader.{shown_of};
 ghost use Rattle.bgp_recording.specs.Captured.{records_of};
 ghost use Rattle.bgp_recording.specs.Gathered.{IsClocked, IsCovered};
@@ -15,7 +15,7 @@ use bgp_judge::{Tracker, Verdict};
 use bgp_open::Config;
 use bgp_orders::record_whole_way;
 use bgp_recording::{Framings, Recording};
-use std::alloc::Allocator;
+use std::alloc::{AllocError, Allocator};
 
 /// In which order of an end's messages what is told of it is so.
 #[derive(Clone, Copy, Debug, PartialEq, Eq)]
@@ -41,6 +41,8 @@ pub(crate) struct AnotherOrder<'a, A: Allocator> {
 pub(crate) enum Searched<'a, A: Allocator> {
     /// Nothing: that answer is told.
     Nothing,
+    /// Nothing, too: memory is refused for the search.
+    NoMemory,
     /// Nothing, too: under these configurations the search is too long.
     TooLong(TooLong),
     /// No order explains this sent message.
@@ -98,37 +100,40 @@ fn another_under<'a, A: Allocator + Copy, T: Tracker<A>>(
     viewed: &Viewed<'a>,
     framings: Framings,
     config: &Config,
-) -> Option<AnotherOrder<'a, A>>
+) -> Result<Option<AnotherOrder<'a, A>>, AllocError>
     requires received { IsCovered viewed.now.connection.received }
     requires sent { IsCovered viewed.now.connection.sent }
-    ensures records { IfSome result (λ another. map shown_of another.recording.records.items
-        ≡ records_of another.recording.entries.items) }
-    ensures answers { IfSome result (λ another. IsAnswerTo viewed.now.session
-        (records_of another.recording.entries.items) (answer_value another.answer)) }
-    ensures yes { IfSome result (λ another. IsYes (answer_value another.answer)) }
-    ensures way { IfSome result (λ another. IsClocked viewed.now.connection
+    ensures records { IfOk result (λ found. IfSome found (λ another.
+        map shown_of another.recording.records.items
+        ≡ records_of another.recording.entries.items)) }
+    ensures answers { IfOk result (λ found. IfSome found (λ another. IsAnswerTo viewed.now.session
+        (records_of another.recording.entries.items) (answer_value another.answer))) }
+    ensures yes { IfOk result (λ found. IfSome found (λ another.
+        IsYes (answer_value another.answer))) }
+    ensures way { IfOk result (λ found. IfSome found (λ another.
+        IsClocked viewed.now.connection
         → AreOfAWayOver framings viewed.now.options.within viewed.now.connection
-        another.recording.entries.items another.recording.received another.recording.sent) }
+        another.recording.entries.items another.recording.received another.recording.sent)) }
 {
     let within = viewed.options.within;
-    let Ok(Some(recording)) = record_whole_way(alloc, config, &viewed.connection, framings, within)
+    let Some(recording) = record_whole_way(alloc, config, &viewed.connection, framings, within)?
     else {
-        return None;
+        return Ok(None);
     };
-    let Ok(answer) = check_end::<A, T>(alloc, &viewed.session, &recording.records) else {
-        return None;
-    };
+    let answer = check_end::<A, T>(alloc, &viewed.session, &recording.records)?;
     if !is_yes(&answer) {
-        return None;
+        return Ok(None);
     }
-    Some(AnotherOrder { recording, answer })
+    Ok(Some(AnotherOrder { recording, answer }))
 }
 
 /// Returns what is found over all orders of the end's messages, if this is answered of the made one:
 /// a yes of another, if the answer isn't a yes; of a no the first sent message that no order
 /// explains, or that some order explains all of them and none is whole; that of an unfinished, too.
-/// Nothing is found if the search is too long or memory is refused for it. It is known to be too
-/// long under these configurations.
+/// Nothing is found if the search is too long or memory is refused for it; if some order is whole
+/// whose records aren't a yes; if the answer is unfinished, and no order explains a sent message; and
+/// if the end's OPEN offers neither family. The search is known to be too long under these
+/// configurations.
 pub(crate) fn search_orders<'a, A: Allocator + Copy, T: Tracker<A>>(
     alloc: A,
     viewed: &Viewed<'a>,
@@ -140,7 +145,8 @@ pub(crate) fn search_orders<'a, A: Allocator + Copy, T: Tracker<A>>(
     requires sent { IsCovered viewed.now.connection.sent }
     ensures sought { IsSought viewed.now.session (answer_value answer.now) result }
     ensures found { IsClocked viewed.now.connection → IsFound viewed.now.session
-        viewed.now.options.within framings viewed.now.connection result }
+        viewed.now.options.within framings viewed.now.connection known (answer_value answer.now)
+        result }
 {
     if !is_no_yes(answer) {
         return Searched::Nothing;
@@ -148,11 +154,18 @@ pub(crate) fn search_orders<'a, A: Allocator + Copy, T: Tracker<A>>(
     match search_end(alloc, viewed, framings, known) {
         Ok(Said::Whole(config)) => {
             match another_under::<A, T>(alloc, viewed, framings, &config) {
-                Some(another) => Searched::Another(another),
-                None => Searched::Nothing,
+                Ok(Some(another)) => Searched::Another(another),
+                Ok(None) => Searched::Nothing,
+                Err(_) => Searched::NoMemory,
             }
         }
-        Ok(Said::NoOrder(found)) if is_no(answer) => Searched::NoOrder(found),
+        Ok(Said::NoOrder(found)) => {
+            if is_no(answer) {
+                Searched::NoOrder(found)
+            } else {
+                Searched::Nothing
+            }
+        }
         Ok(Said::Unfinished(its)) => {
             if is_no(answer) {
                 Searched::Unfinished(its)
@@ -160,7 +173,8 @@ pub(crate) fn search_orders<'a, A: Allocator + Copy, T: Tracker<A>>(
                 Searched::AsMade(its)
             }
         }
-        Ok(Said::TooLong(known)) => Searched::TooLong(known),
-        Ok(_) | Err(_) => Searched::Nothing,
+        Ok(Said::TooLong(its)) => Searched::TooLong(its),
+        Ok(Said::Neither) => Searched::Nothing,
+        Err(_) => Searched::NoMemory,
     }
 }

@@ -18,8 +18,7 @@ use crate::marks::Marks;
 use crate::nothing::{NothingJudged, put_nothing};
 use crate::options::CheckOptions;
 use arrayvec::ArrayVec;
-use bgp_check_lines::{CheckLines, put_last, put_refused, put_refused_between};
-use bgp_check_text::{Settings, Tally};
+use bgp_check_lines::{CheckLines, Settings, Tally, put_last, put_refused, put_refused_between};
 use bgp_import::{
     CutShort, Listed, Refusal, Talks, cut_short_at, listed_in, refused, selection_of, take_all,
 };

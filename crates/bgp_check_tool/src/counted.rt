@@ -3,14 +3,14 @@
 ghost use Rattle.std.specs.Prelude.{◌≡◌, [], Some};
 ghost use Rattle.bgp_import.specs.Refusals.{cause_of};
 ghost use Rattle.bgp_tool.specs.Status.{code_of};
-ghost use Rattle.bgp_check_text.specs.Tally.{no_tally};
+ghost use Rattle.bgp_check_lines.specs.Tally.{no_tally};
 ghost use Rattle.bgp_list.specs.Firsts.{AreApart, with_first};
 ghost use Rattle.bgp_check_tool.specs.Blocks.{block_of, refusal_in};
 ghost use Rattle.bgp_check_tool.specs.Counted.{cause_status, with_block, with_refused};
 
 use crate::connection::EndsTold;
 use arrayvec::ArrayVec;
-use bgp_check_text::Tally;
+use bgp_check_lines::Tally;
 use bgp_import::{Cause, Refusal};
 use bgp_list::{NUMBERS, add_first};
 use bgp_prefix::Session;

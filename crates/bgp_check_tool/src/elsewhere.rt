@@ -16,7 +16,7 @@ use crate::making::Made;
 use crate::orders::NoOrder;
 use crate::place::place_at;
 use bgp_check::{Answer, Judged};
-use bgp_check_text::{sent_deed, sent_form};
+use bgp_check_lines::{sent_deed, sent_form};
 use bgp_instead::is_message_at;
 use bgp_judge::Verdict;
 use bgp_recording::Entry;

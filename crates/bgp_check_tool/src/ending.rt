@@ -9,16 +9,16 @@ ghost use Rattle.bgp_check.specs.WatchedEnd.{IsWatchedFor};
 ghost use Rattle.bgp_judge.specs.Verdict.{HasVerdict, Unfinished, verdict_value};
 ghost use Rattle.bgp_orders.specs.WholeWays.{AreOfAWayOver};
 ghost use Rattle.bgp_parts.specs.Opens.{HasOwnOpen};
-ghost use Rattle.bgp_check_text.specs.AsNumber.{HasAsNumber};
-ghost use Rattle.bgp_check_text.specs.Reason.{IsReasonTo, deed_text, lines_text};
-ghost use Rattle.bgp_check_text.specs.Places.{shown_places};
+ghost use Rattle.bgp_check_lines.specs.AsNumber.{HasAsNumber};
+ghost use Rattle.bgp_check_lines.specs.CheckTextReason.{IsReasonTo, deed_text, lines_text};
+ghost use Rattle.bgp_check_lines.specs.Places.{shown_places};
 ghost use Rattle.bgp_import.specs.Captures.{put_off};
 ghost use Rattle.bgp_recording.specs.Captured.{records_of};
 ghost use Rattle.bgp_recording.specs.Gathered.{IsClocked, IsCovered};
 ghost use Rattle.bgp_recording.specs.Recorded.{IsRecordedInOrder};
 ghost use Rattle.bgp_recording.specs.declared.entry.Entry.{Entry as TheEntry};
 ghost use Rattle.bgp_recording.specs.declared.framing.Unshown.{Unshown as NotShown};
-ghost use Rattle.bgp_check_text.specs.Reached.{IsReached, reached_value};
+ghost use Rattle.bgp_check_lines.specs.Reached.{IsReached, reached_value};
 ghost use Rattle.bgp_check_tool.specs.declared.another.Order.TheVariants.{All as OfAll};
 ghost use Rattle.bgp_check_tool.specs.declared.another.Order.TheVariants.{Another as OfAnother};
 ghost use Rattle.bgp_check_tool.specs.declared.another.Order.TheVariants.{Made as OfMade};
@@ -44,7 +44,7 @@ use crate::options::CheckOptions;
 use crate::orders::{NoOrder, TooLong, Under};
 use crate::place::{last_place, place_at, second_at, sent_place};
 use bgp_check::{Answer, Judged, WatchedEnd, watch_end};
-use bgp_check_text::{
+use bgp_check_lines::{
     Asked, JudgeOptions, Places, Reached, Reason, reached_by, reason_of, reason_under,
     sent_as_number,
 };
@@ -650,6 +650,7 @@ pub(crate) fn told_by<'a, A: Allocator + Copy, T: Tracker<A>>(
     let unknown = TooLong::unknown();
     match search_orders::<A, T>(alloc, viewed, made.framings, &watched.answer, unknown) {
         Searched::Nothing => { told_as_made::<A, T>(alloc, viewed, made, watched, false, unknown) }
+        Searched::NoMemory => { told_as_made::<A, T>(alloc, viewed, made, watched, false, unknown) }
         Searched::TooLong(known) => {
             told_as_made::<A, T>(alloc, viewed, made, watched, false, known)
         }

@@ -7,14 +7,13 @@ ghost use Rattle.bgp_recording.specs.Captured.{records_of};
 ghost use Rattle.bgp_recording.specs.Gathered.{IsClocked, IsCovered};
 ghost use Rattle.bgp_recording.specs.Recorded.{IsRecordedInOrder};
 ghost use Rattle.bgp_check_lines.specs.Lines.{PutsLines};
-ghost use Rattle.bgp_check_text.specs.Settings.{are_told};
+ghost use Rattle.bgp_check_lines.specs.Settings.{are_told};
 ghost use Rattle.bgp_check_tool.specs.Judging.{AreOptionsFor, AreOptionsTo, judge_text};
 
 use crate::ending::Viewed;
 use crate::making::Made;
 use bgp_check::{Answer, Judged};
-use bgp_check_lines::{CheckLines, put_repeat};
-use bgp_check_text::{JudgeOptions, judge_options, told_configuration};
+use bgp_check_lines::{CheckLines, JudgeOptions, judge_options, put_repeat, told_configuration};
 use mrt::Sink;
 use std::alloc::{AllocError, Allocator};
 

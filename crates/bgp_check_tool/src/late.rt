@@ -82,6 +82,7 @@ fn over_orders<A: Allocator + Copy, T: Tracker<A>>(
         Searched::Another(another) => another.answer,
         Searched::Unfinished(its) => unfinished(number_in(&answer), its),
         Searched::Nothing | Searched::TooLong(_) => answer,
+        Searched::NoMemory => answer,
         Searched::NoOrder(_) | Searched::AsMade(_) => answer,
     }
 }

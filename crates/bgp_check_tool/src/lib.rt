@@ -33,7 +33,7 @@ mod place;
 mod seen;
 
 pub use another::Order;
-pub use bgp_check_text::Settings;
+pub use bgp_check_lines::Settings;
 pub use checking::CheckedRecording;
 pub use headline::{a_printed_verdict_is_over_all_configurations, check_marking, check_recording};
 pub use laws::{

@@ -17,10 +17,9 @@ use crate::late::put_late;
 use crate::orders::NoOrder;
 use bgp_check::{Answer, Judged};
 use bgp_check_lines::{
-    CheckLines, put_all_orders, put_another_order, put_in_made_order, put_no, put_not_judged,
-    put_one_order, put_reason, put_unfinished, put_unnamed, put_unshown, put_yes,
+    CheckLines, EndName, put_all_orders, put_another_order, put_in_made_order, put_no,
+    put_not_judged, put_one_order, put_reason, put_unfinished, put_unnamed, put_unshown, put_yes,
 };
-use bgp_check_text::EndName;
 use bgp_judge::Verdict;
 use bgp_prefix::Seconds;
 use bgp_why::{Endpoint as NamedEnd, Place};

@@ -7,7 +7,7 @@ ghost use Rattle.bgp_recording.specs.Gathered.{IsClocked, IsCovered};
 ghost use Rattle.bgp_check_tool.specs.Made.{AreOffered, IsMade};
 
 use bgp_check::{heard_open, own_open};
-use bgp_check_text::are_framed_alike;
+use bgp_check_lines::are_framed_alike;
 use bgp_ended::{framing_by, with_both_offers};
 use bgp_recording::{Framings, Recording, make_records};
 use mrt::Record;

@@ -12,7 +12,7 @@ use crate::connection::{BothTold, EndsTold};
 use crate::ending::Told;
 use crate::orders::NoOrder;
 use bgp_check::Answer;
-use bgp_check_text::{Printing, is_left_out};
+use bgp_check_lines::{Printing, is_left_out};
 use bgp_import::Refusal;
 use bgp_judge::Verdict;
 use bgp_prefix::Session;

@@ -4,8 +4,7 @@ ghost use Rattle.std.specs.Prelude.{◌≡◌};
 ghost use Rattle.bgp_check_lines.specs.Lines.{PutsLines};
 ghost use Rattle.bgp_check_tool.specs.Checking.{nothing_text};
 
-use bgp_check_lines::{CheckLines, put_nothing_at};
-use bgp_check_text::Tally;
+use bgp_check_lines::{CheckLines, Tally, put_nothing_at};
 use mrt::Sink;
 use std::alloc::Allocator;
 use std::fmt;

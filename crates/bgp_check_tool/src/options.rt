@@ -1,7 +1,6 @@
 //! How a recording is checked.
 
-use bgp_check_lines::VerdictForm;
-use bgp_check_text::{Printing, Settings};
+use bgp_check_lines::{Printing, Settings, VerdictForm};
 
 /// How a recording is checked.
 #[derive(Clone, Copy, Debug)]

@@ -161,7 +161,7 @@ fn count_unless<A: Allocator + Copy>(
     within: u16,
 ) -> Result<Explained, AllocError>
     ensures { IfOk result (λ explained. IsTold exchange.now
-        → IsAnswerUnless config.now within exchange.now explained) }
+        → IsAnswerUnless too_long config.now within exchange.now explained) }
 {
     if too_long {
         return Ok(Explained::TooMany);
@@ -179,7 +179,7 @@ fn search_over<A: Allocator + Copy>(
     known: TooLong,
 ) -> Result<Over, AllocError>
     ensures { IfOk result (λ over. IsTold exchange.now → IsSaidOver widest.now within
-        exchange.now over.wants_peers over.under over.explained) }
+        exchange.now known over.wants_peers over.under over.explained) }
 {
     let Some(wanting) = widest.wanting else {
         let alone = count_unless(alloc, known.another, &widest.another, exchange, within)?;
@@ -265,7 +265,7 @@ pub(crate) fn search_end<'a, A: Allocator + Copy>(
     requires received { IsCovered viewed.now.connection.received }
     requires sent { IsCovered viewed.now.connection.sent }
     ensures { IfOk result (λ said. IsClocked viewed.now.connection → IsSaid viewed.now.session
-        viewed.now.options.within framings viewed.now.connection said) }
+        viewed.now.options.within framings viewed.now.connection known said) }
 {
     let within = viewed.options.within;
     let framed = frame_connection(alloc, &viewed.connection, framings)?;

@@ -6,7 +6,7 @@ ghost use Rattle.mrt.specs.Reader.{shown_of};
 ghost use Rattle.bgp_check_tool.specs.Place.{last_place, place_at, second_at, sent_place};
 
 use crate::orders::NoOrder;
-use bgp_check_text::entry_place;
+use bgp_check_lines::entry_place;
 use bgp_prefix::Seconds;
 use bgp_recording::Entry;
 use bgp_why::Place;

@@ -8,8 +8,7 @@ ghost use Rattle.bgp_clock.specs.When.{two_digits, four_digits, six_digits};
 
 use crate::civil::{month_of, year_of};
 use bgp_prefix::Seconds;
-use bgp_text::Lines;
-use mrt::Sink;
+use bgp_text::{Lines, Sink};
 
 /// How many seconds a day has.
 const DAY: u32 = 86400;

@@ -58,7 +58,9 @@ use Rattle.bgp_report.specs.Captures.{ChecksCapture}
 use Rattle.bgp_report.specs.Captures as captures
 use Rattle.bgp_report.specs.Captures.{CheckedCapture}
 use Rattle.bgp_report.specs.Captures.{CaptureOptions}
-use Rattle.bgp_report.specs.Report.{Reports, TakesText, never_fails, recording_options}
+use Rattle.bgp_report.specs.Pieces.{Piece}
+use Rattle.bgp_report.specs.Report.{Alone, Beside, ChecksWithLadders, Reports, TakesText}
+use Rattle.bgp_report.specs.Report.{never_fails, recording_options}
 use Rattle.bgp_report.specs.Report.{capture_options as report_options}
 use Rattle.bgp_recording_tool.specs.Files.{DecodesFile, IsPeeked, JudgesFile, is_recording}
 use Rattle.bgp_recording_tool.specs.Files.{peeked_remaining}
@@ -272,7 +274,7 @@ module _ {R W : Type 0} (remaining : R → Option (List ℕ)) (contents : W → 
       (IsFileNote commands.List file listed.sessions listed.fault)
 
   -- a text is printed so, and its report under the name of the file was written
-  abbrev pub Reported : ℕ → (List ℕ → ℕ → Type 0) → Type 0
+  abbrev pub Reported : ℕ → (List ℕ → ℕ → List Piece → Type 0) → Type 0
   Reported status Prints =
       Reports (TakesWritten contents) write_failures file.now Prints old new status
 
@@ -304,33 +306,32 @@ module _ {R W : Type 0} (remaining : R → Option (List ℕ)) (contents : W → 
       (IsFileNote commands.Check file checked.sessions checked.fault)
 
   -- a report is made of what is printed of a recording, as text with routes and settings: of the
-  -- same answers, in the same words
+  -- same answers, in the same words; after the text stand the ladders of the ends
   abbrev pub ReportsPackets : CheckOptions → CheckedRecording → Ends → Type 0
   ReportsPackets options checked ends = IsCalled file reader old new ends
-      (λ begun read. Reported checked.status (λ (text : List ℕ) (code : ℕ).
+      (λ begun read. Reported checked.status (Beside (λ (text : List ℕ) (code : ℕ).
       recordings.PrintsTrue recordings.NoesAreTrue (GivesRead remaining) has_ended TakesText
-      never_fails (recording_options options) begun read [] text code checked.cut_short)
-      × Reported checked.status (λ (text : List ℕ) (code : ℕ).
+      never_fails (recording_options options) begun read [] text code checked.cut_short))
+      × Reported checked.status (Beside (λ (text : List ℕ) (code : ℕ).
       recordings.PrintsTrue recordings.YesesAreTrue (GivesRead remaining) has_ended TakesText
-      never_fails (recording_options options) begun read [] text code checked.cut_short)
-      × Reported checked.status (λ (text : List ℕ) (code : ℕ).
+      never_fails (recording_options options) begun read [] text code checked.cut_short))
+      × Reported checked.status (Beside (λ (text : List ℕ) (code : ℕ).
       recordings.PrintsTrue recordings.UnfinishedAreTrue (GivesRead remaining) has_ended TakesText
-      never_fails (recording_options options) begun read [] text code checked.cut_short)
-      × Reported checked.status (λ (text : List ℕ) (code : ℕ).
-      ChecksRecording (GivesRead remaining) has_ended TakesText read_failures never_fails
-      (recording_options options) begun read [] text code checked.cut_short
-      checked.refusals.items checked.refusal checked.nothing))
+      never_fails (recording_options options) begun read [] text code checked.cut_short))
+      × Reported checked.status (ChecksWithLadders (GivesRead remaining) has_ended read_failures
+      (recording_options options) begun read checked.cut_short checked.refusals.items
+      checked.refusal checked.nothing))
 
-  -- and of a capture
+  -- and of a capture, after whose text nothing stands
   abbrev pub ReportsRecords : CaptureOptions → CheckedCapture → Ends → Type 0
   ReportsRecords options checked ends = IsCalledWithFront file reader old new ends
-      (λ begun read. Reported checked.status (λ (text : List ℕ) (code : ℕ).
+      (λ begun read. Reported checked.status (Alone (λ (text : List ℕ) (code : ℕ).
       captures.PrintsTrueNoes (GivesFront remaining) front_ended TakesText never_fails
-      (report_options options) begun read [] text code checked.fault)
-      × Reported checked.status (λ (text : List ℕ) (code : ℕ).
+      (report_options options) begun read [] text code checked.fault))
+      × Reported checked.status (Alone (λ (text : List ℕ) (code : ℕ).
       ChecksCapture (GivesFront remaining) front_ended TakesText front_failures never_fails
       (report_options options) begun read [] text code checked.refusals.items checked.sessions
-      checked.fault checked.nothing))
+      checked.fault checked.nothing)))
       (IsFileNote commands.Check file checked.sessions checked.fault)
 
 -- ---- by the first four octets

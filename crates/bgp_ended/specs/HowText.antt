@@ -10,8 +10,8 @@ use Rattle.bgp_values.specs.ErrorData.{DataValue, ErrorFields, cause_of, data_va
 use Rattle.bgp_values.specs.Readable.{text_in}
 use Rattle.bgp_lines.specs.Notifications.{error_data_text}
 use Rattle.bgp_lines.specs.Quoting.{quoted_text}
-use Rattle.bgp_why_parts.specs.Codes.{full_code_text}
-use Rattle.bgp_why_parts.specs.Cut.{cut}
+use Rattle.bgp_why.specs.WhyPartsCodes.{full_code_text}
+use Rattle.bgp_why.specs.Cut.{cut}
 use Rattle.bgp_ended.specs.Values.{HowValue, Notified, Closed, Fallen}
 
 -- ---- the data of a NOTIFICATION

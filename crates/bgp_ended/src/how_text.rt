@@ -6,7 +6,7 @@ ghost use Rattle.std.specs.List.{list_any};
 ghost use Rattle.bgp_text.specs.Lines.{Writes};
 ghost use Rattle.bgp_lines.specs.Notifications.{error_data_text};
 ghost use Rattle.bgp_values.specs.ErrorData.{data_of, error_of};
-ghost use Rattle.bgp_why_parts.specs.Cut.{cut};
+ghost use Rattle.bgp_why.specs.Cut.{cut};
 ghost use Rattle.bgp_ended.specs.HowText.{caused_text, closing_text, detail_text, error_text};
 ghost use Rattle.bgp_ended.specs.HowText.{how_text, is_control, plain_error_text, raw_by};
 ghost use Rattle.bgp_ended.specs.HowText.{raw_text, sentence_in, with_data_text};
@@ -18,7 +18,7 @@ use bgp_names::put_state_name;
 use bgp_open::Notification;
 use bgp_text::Lines;
 use bgp_values::{ErrorData, cause_of, read_text};
-use bgp_why_parts::{Room, put_cut, put_full_code};
+use bgp_why::{Room, put_cut, put_full_code};
 use mrt::Sink;
 use streams::Closing;
 

@@ -20,6 +20,8 @@ mod outline;
 mod same_messages;
 mod stretch;
 
+pub use bgp_check::PeerAs;
+pub use bgp_why::{Endpoint, put_endpoint};
 pub use ended::{Ended, How, Outline};
 pub use ended_line::{put_ended, put_ended_stretch};
 pub use how_text::put_how;

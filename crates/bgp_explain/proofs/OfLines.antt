@@ -27,9 +27,9 @@ use Rattle.bgp_why.specs.declared.state.SentAlready.{SentAlready}
 use Rattle.bgp_why.specs.declared.style.Style.{Style}
 use Rattle.bgp_why.specs.declared.whole.NotWhole.{NotWhole}
 use Rattle.bgp_why.specs.declared.whole.NotWhole.TheVariants.{Faulty, BelowHeader, OtherCount}
-use Rattle.bgp_json_verdicts.specs.At.{at_if, at_of}
-use Rattle.bgp_json_verdicts.specs.Lines.{LineValue, Reasons, AnotherAs, IsUnfit, LastReceived, TheData, TheMessage, TheState, line_text, note_values, other_values, possible_values, reason_text}
-use Rattle.bgp_json_verdicts.specs.Lines as verdicts
+use Rattle.bgp_verdict_lines.specs.At.{at_if, at_of}
+use Rattle.bgp_verdict_lines.specs.JsonVerdictsLines.{LineValue, Reasons, AnotherAs, IsUnfit, LastReceived, TheData, TheMessage, TheState, line_text, note_values, other_values, possible_values, reason_text}
+use Rattle.bgp_verdict_lines.specs.JsonVerdictsLines as verdicts
 use Rattle.bgp_verdict_lines.proofs.SameTexts.{already_same, notes_same, others_same, possible_same, received_same, state_same}
 use Rattle.bgp_explain.specs.declared.explained.Reason.{Reason}
 use Rattle.bgp_explain.specs.declared.why.Received.{Received as Last}

@@ -3,7 +3,7 @@ use Rattle.std.specs.Prelude.{◌≡◌, ℕ, List, [], Option, None, Some}
 use Rattle.std.specs.List.{flat_map}
 use Rattle.bgp_prefix.specs.declared.session.Session.{Session}
 use Rattle.bgp_open.specs.declared.config.Config.{Config}
-use Rattle.bgp_json_verdicts.specs.Lines.{LineValue, line_text}
+use Rattle.bgp_verdict_lines.specs.JsonVerdictsLines.{LineValue, line_text}
 use Rattle.bgp_why.specs.declared.style.Style.{Style}
 use Rattle.bgp_explain.specs.declared.explained.Reason.{Reason}
 use Rattle.bgp_explain.specs.declared.why.Why.{Why}

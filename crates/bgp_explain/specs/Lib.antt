@@ -26,3 +26,7 @@ pub mod Records
 pub mod Written
 pub mod Opened
 pub mod LinesPut
+pub use Rattle.bgp_verdict_lines.specs.Teller
+pub use Rattle.bgp_verdict_lines.specs.declared.form.VerdictForm
+pub use Rattle.bgp_verdict_lines.specs.declared.teller.VerdictTeller
+pub use Rattle.bgp_tool.specs.Status

@@ -1,6 +1,7 @@
 -- Where the records that are judged stand: the number that one has in its session, the packet that
--- shows it, in a recording, and its time. In a recording that is the packet's, which may have passed
--- before the order handles what the record shows. They are counted from 1, and so are packets.
+-- shows it, in a recording, and its time. In a recording that is the packet's, which may have
+-- passed before the order handles what the record shows. They are counted from 1, and so are
+-- packets.
 use Rattle.std.specs.Prelude.{ℕ, zero, suc, List, Option, None, Some, slice_get}
 use Rattle.std.specs.Prelude.{unwrap_or}
 use Rattle.bgp_recording.specs.declared.entry.Entry.{Entry}
@@ -31,7 +32,8 @@ capture_place numbered second = record {
   micro = numbered.micro;
 }
 
--- of all records of a capture's session, whose seconds have these fractions: its count is its number
+-- of all records of a capture's session, whose seconds have these fractions: its count is its
+-- number
 abbrev pub counted_places : List (Option ℕ) → ℕ → ℕ → Place
 counted_places micros count second =
     capture_place (record { number = count; micro = micro_at micros count }) second

@@ -5,7 +5,7 @@ use Rattle.std.specs.Fmt.{decimal}
 use Rattle.mrt.specs.Capture.{Piece, others_of}
 use Rattle.mrt.specs.Reader.{places_of}
 use Rattle.mrt.specs.Skipped.{skipped_in}
-use Rattle.bgp_json_verdicts.specs.Lines.{ends_text}
+use Rattle.bgp_verdict_lines.specs.JsonVerdictsLines.{ends_text}
 use Rattle.bgp_explain.specs.declared.skipped.Skipped.{Skipped}
 
 -- what is skipped of the pieces of a capture

@@ -35,6 +35,8 @@ mod tally;
 mod texts;
 mod why;
 
+pub use bgp_tool::Status;
+pub use bgp_verdict_lines::VerdictForm;
 pub use capture::explain_with;
 pub use details::Details;
 pub use explained::{Explained, Impossible, Reason, Totals};

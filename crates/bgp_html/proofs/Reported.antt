@@ -9,9 +9,9 @@ use Rattle.bgp_text.proofs.Pieces.{Joins, and_then}
 use Rattle.bgp_html.proofs.Seen.{lines_are_printed}
 use Rattle.bgp_html.specs.Escaped.{escape_octet, escaped}
 use Rattle.bgp_html.specs.Kinds.{kind_of}
-use Rattle.bgp_html.specs.Pieces.{html_of, piece_html, piece_lines, printed_of}
+use Rattle.bgp_html.specs.Pieces.{Piece, html_of, piece_html, piece_lines, printed_of}
 use Rattle.bgp_html.specs.Printed.{begun_html, kind_end, kind_start, printed_html}
-use Rattle.bgp_html.specs.Report.{ReportsSayTheSame, head_pieces, line_pieces, lines_from, lines_html, report_html}
+use Rattle.bgp_html.specs.Report.{ReportsSayTheSame, head_pieces, line_pieces, lines_from, lines_html, report_html, report_pieces}
 use Rattle.bgp_html.specs.Taking.{Front, Place, Puts, Within, end_html, html_at, html_from, place_after, place_behind, place_of}
 use Rattle.bgp_html.specs.declared.printed.Kind.{Kind}
 
@@ -133,9 +133,11 @@ put_lines law from to after kind kind' front front' text none empty puts ends =
     subst (λ (p : Place). Writes to after (end_html p)) (puts.place ∙ ap (λ (p : Place). place_after p text) first) ends in
     subst (λ (t : List ℕ). Writes from after t) ((all_lines text).0 [] (omega arith)) (and_then law start end)
 
--- the head, and then the lines
-pub reported : (name text : List ℕ) → html_of (head_pieces name) ++ lines_html text ≡ report_html name text
-reported name text = sym (flat_map-append piece_html (head_pieces name) (line_pieces (lines_from [] text)))
+-- the head, then the lines, and then what stands behind them
+pub reported : (name text : List ℕ) (behind : List Piece) → (html_of (head_pieces name) ++ lines_html text) ++ html_of behind ≡ report_html name text behind
+reported name text behind =
+    ap (λ (o : List ℕ). o ++ html_of behind) (sym (flat_map-append piece_html (head_pieces name) (line_pieces (lines_from [] text))))
+    ∙ sym (flat_map-append piece_html (report_pieces name text) behind)
 
 -- ---- what it says
 
@@ -150,7 +152,10 @@ said [] front = refl
 said (octet ∷ octets) front = by_last front octets octet (octet == 10) (λ line. said octets line)
 
 pub say_the_same : ReportsSayTheSame
-say_the_same name text =
-    lines_are_printed (head_pieces name ++ line_pieces (lines_from [] text))
+say_the_same name text behind none =
+    lines_are_printed (report_pieces name text ++ behind)
+    ∙ flat_map-append piece_lines (report_pieces name text) behind
+    ∙ ap (λ (o : List ℕ). printed_of (report_pieces name text) ++ o) none
+    ∙ append-nil (printed_of (report_pieces name text))
     ∙ flat_map-append piece_lines (head_pieces name) (line_pieces (lines_from [] text))
     ∙ said text []

@@ -32,7 +32,7 @@ style_2 =
     ++ (codes "h2 samp::first-line{font-weight:700}\n"
     ++ (codes "h3{margin-top:1.2rem}\n"
     ++ (codes "h3,.sum{font-weight:700}\n"
-    ++ (codes "pre{margin:0}\n"
+    ++ (codes "pre{margin:0}caption{color:var(--pale)}\n"
     ++ (codes "samp{display:block;font:.85rem/1.5 ui-monospace,monospace;\n"
     ++ codes "font-weight:inherit;white-space:pre-wrap;overflow-wrap:anywhere;\n"))))))
 
@@ -77,15 +77,17 @@ style_6 =
     ++ (codes ".late{opacity:.55}\n"
     ++ (codes ".could div{border-bottom-style:dashed}\n"
     ++ (codes ".could{font-style:italic}\n"
-    ++ (codes ".run{color:var(--pale);font-style:italic}\n"
+    ++ (codes ".run{color:var(--pale);font-style:italic}.run div{border-style:none}\n"
     ++ codes "@media screen{body{display:flex;flex-direction:column}\n"))))))
 
 abbrev pub style_7 : List ℕ
 style_7 =
-    codes "h1{order:-3}.about{order:-2}.sum{order:-1}}\n"
+    codes "h1{order:-3}body>.about{order:-2}.sum{order:-1}}\n"
     ++ (codes "@media (max-width:45rem){td:nth-child(4),td:nth-child(6){width:1rem}}\n"
     ++ (codes "@media print{body{max-width:none;margin:0;font-size:.8rem}\n"
-    ++ codes "h2,h3{break-after:avoid}tr{break-inside:avoid}}\n"))
+    ++ (codes "h2,h3,summary{break-after:avoid}tr{break-inside:avoid}\n"
+    ++ (codes "details::details-content{display:block;content-visibility:visible;\n"
+    ++ codes "block-size:auto}}\n"))))
 
 abbrev pub style_text : List ℕ
 style_text = style_1 ++ (style_2 ++ (style_3 ++ (style_4 ++ (style_5 ++ (style_6 ++ (style_7))))))
@@ -98,10 +100,43 @@ after_title = codes ": bgp check</title>\n<style>\n" ++ (style_text ++ codes "</
 abbrev pub about_text : List ℕ
 about_text =
     codes "yes: the standard (RFC 4271 with RFC 7606) allows everything that this "
-    ++ (codes "file shows of the router. no: it does not allow what the router did there, "
+    ++ (codes "file shows of the router; that does not say that the session came up: read the "
+    ++ (codes "state at the end of the line. no: it does not allow what the router did there, "
     ++ (codes "and the lines below list all that could have come instead. unfinished: the "
     ++ (codes "file ends before something that was due, which blames nobody. The lines are "
-    ++ codes "those of bgp check, word for word.")))
+    ++ codes "those of bgp check, word for word."))))
+
+-- and their words
+abbrev pub words_text : List ℕ
+words_text =
+    codes "An end is one of both routers of a connection. A record is a message that it "
+    ++ (codes "sent or received, or a change of its state. refused: it cannot be read, and is "
+    ++ (codes "not judged. open at the end of the file: no packet ended the connection. "
+    ++ (codes "A single - stands for nothing: no prefix, or no attribute. origin 0, 1 and 2 "
+    ++ (codes "are IGP, EGP and INCOMPLETE. Within so many seconds a message that came is "
+    ++ (codes "handled: 10, unless --within says another number. The standard sets no such "
+    ++ codes "time; the 10 seconds are a choice of bgp.")))))
 
 abbrev pub after_name : List ℕ
-after_name = codes "</h1>\n<p class=\"about\">" ++ (about_text ++ codes "</p>\n")
+after_name =
+    codes "</h1>\n<p class=\"about\">"
+    ++ (about_text ++ (codes "</p>\n<p class=\"about\">" ++ (words_text ++ codes "</p>\n")))
+
+-- ---- what the rows of records say
+
+abbrev pub ladders_text : List ℕ
+ladders_text =
+    codes "The records of each end that is judged, a row each, in the order that bgp "
+    ++ (codes "import makes: one in which the router can have handled them. Seconds are "
+    ++ (codes "counted from the first packet of the connection. came before: the packet came "
+    ++ (codes "before that of a row above it, and was handled after it. No packet shows a "
+    ++ (codes "change of state: it stands at the packet of the message beside it, or of the "
+    ++ (codes "end of the connection. The row of a no has a cross, and those below it are "
+    ++ (codes "pale: they are not judged. If the lines above name an earlier packet in the "
+    ++ (codes "order of bgp import, that one is not allowed in this order alone; the message "
+    ++ codes "of the row with the cross is not allowed in any.")))))))
+
+abbrev pub ladders_start : List ℕ
+ladders_start =
+    codes "<section>\n<h2><b>Records</b></h2>\n<p class=\"about\">"
+    ++ (ladders_text ++ codes "</p>\n")

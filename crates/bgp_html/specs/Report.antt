@@ -3,7 +3,7 @@ use Rattle.std.specs.Prelude.{◌≡◌, ◌==◌, ◌||◌, ◌++◌, ℕ, List
 use Rattle.std.specs.Prelude.{if◌then◌else◌}
 use Rattle.std.specs.List.{flat_map}
 use Rattle.bgp_html.specs.Kinds.{kind_of}
-use Rattle.bgp_html.specs.Pieces.{Markup, Piece, Printed, Words, html_of}
+use Rattle.bgp_html.specs.Pieces.{Markup, Piece, Printed, Words, html_of, printed_of}
 use Rattle.bgp_html.specs.Reading.{printed}
 use Rattle.bgp_html.specs.declared.tag.Tag.TheVariants.{AfterName, AfterTitle, Page}
 
@@ -50,11 +50,12 @@ lines_html text = html_of (line_pieces (lines_from [] text))
 abbrev pub report_pieces : List ℕ → List ℕ → List Piece
 report_pieces name text = head_pieces name ++ line_pieces (lines_from [] text)
 
--- of a file with this name, of which this text is printed
-abbrev pub report_html : List ℕ → List ℕ → List ℕ
-report_html name text = html_of (report_pieces name text)
+-- of a file with this name, of which this text is printed; these pieces stand after the text
+abbrev pub report_html : List ℕ → List ℕ → List Piece → List ℕ
+report_html name text behind = html_of (report_pieces name text ++ behind)
 
 -- Whoever reads what stands in the elements of a report that are called samp gets the text, word
--- for word, and nothing else.
+-- for word, and nothing else, if no line is among the pieces after the text.
 abbrev pub ReportsSayTheSame : Type 0
-ReportsSayTheSame = (name text : List ℕ) → printed (report_html name text) ≡ text
+ReportsSayTheSame = (name text : List ℕ) (behind : List Piece) → printed_of behind ≡ []
+    → printed (report_html name text behind) ≡ text

@@ -1,7 +1,8 @@
 //! The head of a report: what it says whatever is reported.
 
 ghost use Rattle.bgp_text.specs.Lines.{Writes};
-ghost use Rattle.bgp_html.specs.Page.{about_text, after_name, after_title, page_start};
+ghost use Rattle.bgp_html.specs.Page.{about_text, after_name, after_title, ladders_start};
+ghost use Rattle.bgp_html.specs.Page.{ladders_text, page_start, words_text};
 ghost use Rattle.bgp_html.specs.Page.{style_1, style_2, style_3, style_4};
 ghost use Rattle.bgp_html.specs.Page.{style_5, style_6, style_7, style_text};
 
@@ -44,7 +45,7 @@ fn put_style_2<W: Sink>(lines: &mut Lines<'_, W>)
     lines.put(b"h2 samp::first-line{font-weight:700}\n");
     lines.put(b"h3{margin-top:1.2rem}\n");
     lines.put(b"h3,.sum{font-weight:700}\n");
-    lines.put(b"pre{margin:0}\n");
+    lines.put(b"pre{margin:0}caption{color:var(--pale)}\n");
     lines.put(b"samp{display:block;font:.85rem/1.5 ui-monospace,monospace;\n");
     lines.put(b"font-weight:inherit;white-space:pre-wrap;overflow-wrap:anywhere;\n");
 }
@@ -101,7 +102,7 @@ fn put_style_6<W: Sink>(lines: &mut Lines<'_, W>)
     lines.put(b".late{opacity:.55}\n");
     lines.put(b".could div{border-bottom-style:dashed}\n");
     lines.put(b".could{font-style:italic}\n");
-    lines.put(b".run{color:var(--pale);font-style:italic}\n");
+    lines.put(b".run{color:var(--pale);font-style:italic}.run div{border-style:none}\n");
     lines.put(b"@media screen{body{display:flex;flex-direction:column}\n");
 }
 
@@ -109,10 +110,12 @@ fn put_style_6<W: Sink>(lines: &mut Lines<'_, W>)
 fn put_style_7<W: Sink>(lines: &mut Lines<'_, W>)
     ensures { Writes lines.old lines.new style_7 }
 {
-    lines.put(b"h1{order:-3}.about{order:-2}.sum{order:-1}}\n");
+    lines.put(b"h1{order:-3}body>.about{order:-2}.sum{order:-1}}\n");
     lines.put(b"@media (max-width:45rem){td:nth-child(4),td:nth-child(6){width:1rem}}\n");
     lines.put(b"@media print{body{max-width:none;margin:0;font-size:.8rem}\n");
-    lines.put(b"h2,h3{break-after:avoid}tr{break-inside:avoid}}\n");
+    lines.put(b"h2,h3,summary{break-after:avoid}tr{break-inside:avoid}\n");
+    lines.put(b"details::details-content{display:block;content-visibility:visible;\n");
+    lines.put(b"block-size:auto}}\n");
 }
 
 /// Puts the style sheet.
@@ -142,10 +145,24 @@ fn put_about<W: Sink>(lines: &mut Lines<'_, W>)
     ensures { Writes lines.old lines.new about_text }
 {
     lines.put(b"yes: the standard (RFC 4271 with RFC 7606) allows everything that this ");
-    lines.put(b"file shows of the router. no: it does not allow what the router did there, ");
+    lines.put(b"file shows of the router; that does not say that the session came up: read the ");
+    lines.put(b"state at the end of the line. no: it does not allow what the router did there, ");
     lines.put(b"and the lines below list all that could have come instead. unfinished: the ");
     lines.put(b"file ends before something that was due, which blames nobody. The lines are ");
     lines.put(b"those of bgp check, word for word.");
+}
+
+/// Puts what the words of the lines mean.
+fn put_words<W: Sink>(lines: &mut Lines<'_, W>)
+    ensures { Writes lines.old lines.new words_text }
+{
+    lines.put(b"An end is one of both routers of a connection. A record is a message that it ");
+    lines.put(b"sent or received, or a change of its state. refused: it cannot be read, and is ");
+    lines.put(b"not judged. open at the end of the file: no packet ended the connection. ");
+    lines.put(b"A single - stands for nothing: no prefix, or no attribute. origin 0, 1 and 2 ");
+    lines.put(b"are IGP, EGP and INCOMPLETE. Within so many seconds a message that came is ");
+    lines.put(b"handled: 10, unless --within says another number. The standard sets no such ");
+    lines.put(b"time; the 10 seconds are a choice of bgp.");
 }
 
 /// Puts what stands between the heading and the first connection.
@@ -154,5 +171,31 @@ pub(crate) fn put_after_name<W: Sink>(lines: &mut Lines<'_, W>)
 {
     lines.put(b"</h1>\n<p class=\"about\">");
     put_about(lines);
+    lines.put(b"</p>\n<p class=\"about\">");
+    put_words(lines);
+    lines.put(b"</p>\n");
+}
+
+/// Puts what the rows of records say.
+fn put_about_ladders<W: Sink>(lines: &mut Lines<'_, W>)
+    ensures { Writes lines.old lines.new ladders_text }
+{
+    lines.put(b"The records of each end that is judged, a row each, in the order that bgp ");
+    lines.put(b"import makes: one in which the router can have handled them. Seconds are ");
+    lines.put(b"counted from the first packet of the connection. came before: the packet came ");
+    lines.put(b"before that of a row above it, and was handled after it. No packet shows a ");
+    lines.put(b"change of state: it stands at the packet of the message beside it, or of the ");
+    lines.put(b"end of the connection. The row of a no has a cross, and those below it are ");
+    lines.put(b"pale: they are not judged. If the lines above name an earlier packet in the ");
+    lines.put(b"order of bgp import, that one is not allowed in this order alone; the message ");
+    lines.put(b"of the row with the cross is not allowed in any.");
+}
+
+/// Puts the start of what stands after the text: a heading, and what the rows say.
+pub(crate) fn put_ladders_start<W: Sink>(lines: &mut Lines<'_, W>)
+    ensures { Writes lines.old lines.new ladders_start }
+{
+    lines.put(b"<section>\n<h2><b>Records</b></h2>\n<p class=\"about\">");
+    put_about_ladders(lines);
     lines.put(b"</p>\n");
 }

@@ -1,7 +1,6 @@
 //! What `bgp check` prints, as a report in HTML.
 
-ghost use Rattle.std.specs.Prelude.{◌≡◌, ◌<◌, ◌≤◌, ◌∷◌, [], None, Some, IsFalse, IsTrue};
-ghost use Rattle.std.specs.Prelude.{OnErr, OnOk, length};
+ghost use Rattle.std.specs.Prelude.{◌≡◌, ◌<◌, ◌≤◌, ◌∷◌, [], None, Some, IsFalse, length};
 ghost use Rattle.bgp_text.specs.Lines.{Writes};
 ghost use Rattle.bgp_html.specs.Pieces.{html_of};
 ghost use Rattle.bgp_html.specs.Report.{head_pieces};
@@ -19,7 +18,7 @@ const FRONT: usize = 4;
 
 /// A report on its way to a sink. It is a sink, too: it takes what `bgp check` prints, and puts each
 /// line into an element of its own, by what the line says. It never fails: if the sink behind it
-/// does, each [`hand_over`](Report::hand_over) tells of that.
+/// does, the lines tell of that.
 #[derive(Drop)]
 pub struct Report<'a, W: Sink> {
     lines: Lines<'a, W>,
@@ -70,21 +69,11 @@ impl<'a, W: Sink> Report<'a, W> {
         }
     }
 
-    /// Hands over what is put, and tells whether the sink has taken all of it.
-    pub fn hand_over(&mut self) -> Result<(), Failed>
-        ensures writes { Writes self.old.lines self.new.lines [] }
-        ensures none { self.new.lines.held.items ≡ [] }
-        ensures ok { OnOk result (IsFalse self.new.lines.outlet.has_failed) }
-        ensures err { OnErr result (IsTrue self.new.lines.outlet.has_failed) }
+    /// Returns the lines of the report, behind whose text more can be put: `end` comes first.
+    pub fn into_lines(self) -> Lines<'a, W>
+        ensures { result ≡ self.entry.lines }
     {
-        self.lines.hand_over()
-    }
-
-    /// Returns the sink, as the last call left it: what is still held is lost.
-    pub fn into_sink(self) -> &'a mut W
-        ensures { result ≡ self.entry.lines.outlet.sink }
-    {
-        self.lines.into_sink()
+        self.lines
     }
 
     /// Puts an octet at the front of a line.

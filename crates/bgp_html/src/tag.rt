@@ -4,7 +4,7 @@ ghost use Rattle.bgp_text.specs.Lines.{Writes};
 ghost use Rattle.bgp_html.specs.Tags.{mark_class, row_text, tag_text, what_class};
 ghost use Rattle.bgp_html.specs.declared.tag.Tag.TheVariants.{Change, ChangeEnd, Ladder};
 
-use crate::page::{put_after_name, put_after_title, put_page_start};
+use crate::page::{put_after_name, put_after_title, put_ladders_start, put_page_start};
 use bgp_text::Lines;
 use mrt::Sink;
 
@@ -75,9 +75,9 @@ pub enum Tag {
     AfterTitle,
     /// The end of the heading, and what the answers say.
     AfterName,
-    /// The start of what is said of a connection, or of an end of it.
-    Section,
-    /// See `Section`.
+    /// The start of what stands after the text, with a heading and what the rows say; and its end.
+    Ladders,
+    /// See `Ladders`.
     SectionEnd,
     /// The start of what is shown when it is asked for, and of its summary.
     Details,
@@ -179,7 +179,7 @@ pub fn put_tag<W: Sink>(lines: &mut Lines<'_, W>, tag: Tag)
         Tag::Page => put_page_start(lines),
         Tag::AfterTitle => put_after_title(lines),
         Tag::AfterName => put_after_name(lines),
-        Tag::Section => lines.put(b"<section>\n"),
+        Tag::Ladders => put_ladders_start(lines),
         Tag::SectionEnd => lines.put(b"</section>\n"),
         Tag::Details => lines.put(b"<details><summary>"),
         Tag::DetailsOpen => lines.put(b"<details open><summary>"),

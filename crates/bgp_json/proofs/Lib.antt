@@ -8,3 +8,4 @@ pub mod Shallow
 pub mod TextLines
 pub mod OneOutput
 pub mod Outputs
+pub use Rattle.bgp_lines.proofs.OneOffer

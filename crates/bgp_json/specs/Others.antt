@@ -5,7 +5,7 @@ use Rattle.mrt.specs.Fault.{fault_number, fault_name}
 use Rattle.mrt.specs.declared.fault.CaptureFault.{CaptureFault}
 use Rattle.bgp_wire.specs.declared.header.HeaderFaults.{HeaderFaults}
 use Rattle.bgp_wire.specs.Header.{length_of, type_of}
-use Rattle.bgp_names.specs.States.{state_name}
+use Rattle.bgp_json_values.specs.States.{state_name}
 use Rattle.bgp_values.specs.declared.opens.Direction.{Direction}
 use Rattle.bgp_lines.specs.Others.{fault_subcodes}
 use Rattle.bgp_json_values.specs.ErrorJson.{error_name_json}

@@ -13,11 +13,10 @@ ghost use Rattle.bgp_json.specs.Others.{fault_json, header_json, header_members}
 use crate::line::{put_written, start};
 use crate::members::begin;
 use crate::place::{Place, put_place};
-use bgp_json_values::{put_error_name, put_number, put_octets_member};
+use bgp_json_values::{Writer, put_error_name, put_number, put_octets_member};
 use bgp_text::Lines;
 use bgp_wire::{ErrorCode, HEADER_LEN, HeaderFaults, read_type};
 use byteorder::{BigEndian, ByteOrder};
-use json::Writer;
 use mrt::Sink;
 use std::alloc::{AllocError, Allocator};
 

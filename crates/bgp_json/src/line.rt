@@ -6,8 +6,8 @@ ghost use Rattle.json.specs.Tree.{depth, json_tokens};
 ghost use Rattle.bgp_json.specs.Line.{PutsLine};
 ghost use Rattle.bgp_json.specs.Object.{json_line};
 
+use bgp_json_values::Writer;
 use bgp_text::Lines;
-use json::Writer;
 use mrt::Sink;
 use std::alloc::{AllocError, Allocator};
 
@@ -20,9 +20,9 @@ pub(crate) fn start<A: Allocator>(alloc: A) -> Writer<A>
     ensures before { result.before ≡ [] }
     ensures tokens { result.tokens ≡ [] }
 {
-    let mut room = Vec::new(alloc);
-    let _ = room.reserve(LINE);
-    Writer::new(room)
+    let mut writer = Writer::new(alloc);
+    let _ = writer.make_room(LINE);
+    writer
 }
 
 /// Puts the line of what was written, or nothing if memory was refused for it.

@@ -18,13 +18,12 @@ use crate::members::begin;
 use crate::open::{write_malformed_open, write_open};
 use crate::place::{Place, put_place};
 use crate::update::{write_malformed_update, write_update};
-use bgp_json_values::put_error;
+use bgp_json_values::{Writer, put_error};
 use bgp_open::{Notification, read_notification, read_open};
 use bgp_text::Lines;
 use bgp_update::read_parts;
 use bgp_values::Reading;
 use bgp_wire::MessageType;
-use json::Writer;
 use mrt::Sink;
 use std::alloc::{AllocError, Allocator};
 

@@ -14,13 +14,12 @@ ghost use Rattle.bgp_json.specs.MessageJson.{malformed_open_members, open_json, 
 use crate::members::begin;
 use crate::place::{Place, put_place};
 use bgp_json_values::{
-    put_address, put_capabilities, put_name, put_number, put_octets_member, put_unless,
+    Writer, name_of_subcode, put_address, put_capabilities, put_name, put_number,
+    put_octets_member, put_unless,
 };
-use bgp_names::name_of_subcode;
 use bgp_open::{Open, OpenFault};
 use bgp_prefix::Address;
 use bgp_wire::ErrorCode;
-use json::Writer;
 use std::alloc::{AllocError, Allocator};
 
 /// Where the parameters of an OPEN stand.

@@ -4,8 +4,8 @@ ghost use Rattle.std.specs.Prelude.{◌++◌, ◌∷◌, [], ℕ, List, Option, 
 ghost use Rattle.std.specs.Borrow.{Bor};
 ghost use Rattle.json.specs.Json.{string};
 ghost use Rattle.json.specs.Tree.{json_tokens};
-ghost use Rattle.bgp_names.specs.Naming.{name_or};
-ghost use Rattle.bgp_names.specs.States.{state_name};
+ghost use Rattle.bgp_json_values.specs.Naming.{name_or};
+ghost use Rattle.bgp_json_values.specs.States.{state_name};
 ghost use Rattle.bgp_json_values.specs.Adding.{Adds};
 ghost use Rattle.bgp_json_values.specs.Objects.{members_tokens};
 ghost use Rattle.bgp_json.specs.Line.{PutsLine};
@@ -16,11 +16,9 @@ ghost use Rattle.bgp_json.specs.Others.{recording_json, refusal_members, rest_js
 use crate::line::{put_written, start};
 use crate::members::{begin, put_text};
 use crate::place::{RecordPlace, put_direction, put_record_place};
-use bgp_json_values::{put_name, put_number, put_octets_member};
-use bgp_names::name_of_state;
+use bgp_json_values::{Writer, name_of_state, put_name, put_number, put_octets_member};
 use bgp_text::Lines;
 use bgp_values::Direction;
-use json::Writer;
 use mrt::{CaptureFault, Sink};
 use std::alloc::{AllocError, Allocator};
 

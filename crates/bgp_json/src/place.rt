@@ -7,10 +7,9 @@ ghost use Rattle.bgp_json.specs.Place.{direction_json, direction_text, packet_me
 ghost use Rattle.bgp_json.specs.Place.{place_members, record_members};
 
 use crate::members::put_text;
-use bgp_json_values::put_number;
+use bgp_json_values::{Writer, put_number};
 use bgp_prefix::Seconds;
 use bgp_values::Direction;
-use json::Writer;
 use std::alloc::{AllocError, Allocator};
 
 /// A record of a capture, or a message or a change of state of a recording.

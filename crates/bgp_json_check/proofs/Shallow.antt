@@ -6,15 +6,15 @@ use Rattle.json.specs.Tree.{depth}
 use Rattle.bgp_path.specs.Path.{PathValue}
 use Rattle.bgp_update.specs.declared.destination.Destination.{Destination}
 use Rattle.bgp_open.specs.declared.families.Families.{Families}
-use Rattle.bgp_check.specs.declared.peer_as.PeerAs.{PeerAs}
-use Rattle.bgp_check.specs.declared.peer_as.PeerAs.TheVariants as peers
+use Rattle.bgp_list.specs.PeerAs.{PeerAs}
+use Rattle.bgp_list.specs.PeerAs.TheVariants as peers
 use Rattle.bgp_json.specs.Object.{typed}
 use Rattle.bgp_json_values.specs.Objects.{number_of}
 use Rattle.bgp_json_values.specs.ErrorJson.{error_members}
 use Rattle.bgp_json_values.proofs.Depths.{AreWithin, array_depth, both_within, error_within, time_within}
 use Rattle.bgp_json_values.specs.Times.{time_members}
 use Rattle.bgp_json_verdicts.specs.At.{number_members as some_number, place_members}
-use Rattle.bgp_ended.specs.Values.{HowValue, Notified, Closed, Fallen}
+use Rattle.bgp_list.specs.Values.{HowValue, Notified, Closed, Fallen}
 use Rattle.bgp_list.specs.EndedJson.{how_members}
 use Rattle.bgp_why.specs.declared.place.Place.{Place}
 use Rattle.bgp_json_verdicts.specs.declared.at.At.{At}

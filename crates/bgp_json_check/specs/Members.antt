@@ -6,8 +6,8 @@ use Rattle.bgp_open.specs.declared.families.Families.{Families}
 use Rattle.bgp_names.specs.States.{state_name}
 use Rattle.bgp_values.specs.declared.opens.Direction.{Direction}
 use Rattle.bgp_values.specs.declared.opens.Direction.TheVariants.{Received, Sent}
-use Rattle.bgp_check.specs.declared.peer_as.PeerAs.{PeerAs}
-use Rattle.bgp_check.specs.declared.peer_as.PeerAs.TheVariants as peers
+use Rattle.bgp_list.specs.PeerAs.{PeerAs}
+use Rattle.bgp_list.specs.PeerAs.TheVariants as peers
 use Rattle.bgp_json_check.specs.declared.member.JudgedEnd.{JudgedEnd}
 use Rattle.bgp_json_values.specs.Objects.{array_of, number_of}
 use Rattle.bgp_json_values.specs.Times.{time_members}

@@ -6,14 +6,14 @@ use Rattle.bgp_update.specs.declared.destination.Destination.{Destination}
 use Rattle.bgp_machine.specs.Run.{End}
 use Rattle.bgp_machine.specs.declared.fsm.Fsm.{Fsm}
 use Rattle.bgp_open.specs.declared.families.Families.{Families}
-use Rattle.bgp_check.specs.declared.peer_as.PeerAs.{PeerAs}
+use Rattle.bgp_list.specs.PeerAs.{PeerAs}
 use Rattle.bgp_json.specs.Object.{typed}
 use Rattle.bgp_json_values.specs.Objects.{number_of}
 use Rattle.bgp_json_verdicts.specs.At.{place_members}
 use Rattle.bgp_json_verdicts.specs.Objects.{state_member, text_json}
 use Rattle.bgp_json_verdicts.specs.RouteJson.{route_members}
 use Rattle.bgp_json_verdicts.specs.declared.at.At.{At}
-use Rattle.bgp_ended.specs.Values.{HowValue}
+use Rattle.bgp_list.specs.Values.{HowValue}
 use Rattle.bgp_list.specs.EndedJson.{how_members}
 use Rattle.bgp_list.specs.JsonMembers.{endpoint_members}
 use Rattle.bgp_why.specs.declared.endpoint.Endpoint.{Endpoint}

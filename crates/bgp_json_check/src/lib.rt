@@ -22,6 +22,11 @@ mod objects;
 mod putting;
 mod teller;
 
+pub use bgp_json_verdicts::At;
+pub use bgp_list::{
+    Line, fault_status, first_second, put_connection, put_fault, put_refused, put_refused_between,
+    put_refused_connection, put_session,
+};
 pub use member::JudgedEnd;
 pub use objects::{CheckDetail, CheckTotal, CheckVerdict, Summary};
 pub use teller::CheckTeller;

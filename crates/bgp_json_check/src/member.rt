@@ -10,17 +10,15 @@ ghost use Rattle.bgp_json_check.specs.Members.{part_members};
 ghost use Rattle.bgp_json_check.specs.Members.{peer_members, reached_members, record_members};
 ghost use Rattle.bgp_json_check.specs.Members.{some_before_members};
 
-use bgp_check::PeerAs;
 use bgp_json::put_text;
-use bgp_json_values::{put_name, put_number, put_time, put_truth};
+use bgp_json_values::{Writer, put_name, put_number, put_time, put_truth};
 use bgp_json_verdicts::{put_families, put_number_if, put_octets_text, put_state};
-use bgp_list::{put_as_number, put_end_members, put_pair};
+use bgp_list::{PeerAs, put_as_number, put_end_members, put_pair};
 use bgp_machine::Fsm;
 use bgp_names::name_of_state;
 use bgp_open::Families;
 use bgp_values::Direction;
 use bgp_why::{Endpoint, Place};
-use json::Writer;
 use std::alloc::{AllocError, Allocator};
 
 /// An end of a connection, or of a session of a capture.

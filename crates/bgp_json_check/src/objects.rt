@@ -1,8 +1,8 @@
 //! The objects of lines, but for those of routes.
 
 use crate::member::JudgedEnd;
-use bgp_check::PeerAs;
 use bgp_json_verdicts::At;
+use bgp_list::PeerAs;
 use bgp_machine::Fsm;
 use bgp_open::Families;
 use bgp_values::Direction;

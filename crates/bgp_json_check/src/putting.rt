@@ -5,7 +5,7 @@ ghost use Rattle.json.specs.Tree.{json_tokens};
 ghost use Rattle.bgp_json.specs.Line.{PutsLine};
 ghost use Rattle.bgp_json.specs.Object.{json_line, typed};
 ghost use Rattle.bgp_json_values.specs.Adding.{Adds};
-ghost use Rattle.bgp_ended.specs.Values.{how_value};
+ghost use Rattle.bgp_list.specs.Values.{how_value};
 ghost use Rattle.bgp_list.specs.Forms.{line_json};
 ghost use Rattle.bgp_list.specs.Lines.{line_value};
 ghost use Rattle.bgp_list.specs.SessionJson.{session_json};
@@ -16,16 +16,14 @@ ghost use Rattle.bgp_json_check.specs.Objects.{route_json, total_json, verdict_j
 
 use crate::member::{Member, put_flag, put_members};
 use crate::objects::{CheckDetail, CheckTotal, CheckVerdict};
-use bgp_ended::How;
 use bgp_json::begin;
-use bgp_json_values::put_number;
+use bgp_json_values::{Writer, put_number};
 use bgp_json_verdicts::{At, put_place, put_route, put_written};
-use bgp_list::{Line, put_end_members, put_how_members, write_session};
+use bgp_list::{How, Line, put_end_members, put_how_members, write_session};
 use bgp_path::Path;
 use bgp_text::Lines;
 use bgp_update::Destination;
 use bgp_why::Endpoint;
-use json::Writer;
 use mrt::Sink;
 use mrt_sessions::{Addresses, NamedRecord};
 use std::alloc::{AllocError, Allocator};
@@ -35,7 +33,7 @@ fn start<A: Allocator>(alloc: A) -> Writer<A>
     ensures before { result.before ≡ [] }
     ensures tokens { result.tokens ≡ [] }
 {
-    Writer::new(Vec::new(alloc))
+    Writer::new(alloc)
 }
 
 /// Writes an object with these members.

@@ -3,11 +3,11 @@
 ghost use Rattle.std.specs.Prelude.{◌≡◌, ◌+◌, ◌∷◌, [], IfOk, List, false, map, true};
 ghost use Rattle.json.specs.Json.{Json};
 ghost use Rattle.bgp_judge.specs.Ends.{end_value};
-ghost use Rattle.bgp_tool.specs.Status.{code_of};
+ghost use Rattle.bgp_json_verdicts.specs.Status.{code_of};
 ghost use Rattle.mrt_sessions.specs.Located.{located};
 ghost use Rattle.bgp_json.specs.Others.{capture_json};
 ghost use Rattle.bgp_json_verdicts.specs.Telling.{AreValues, lines_of};
-ghost use Rattle.bgp_ended.specs.Values.{how_value};
+ghost use Rattle.bgp_list.specs.Values.{how_value};
 ghost use Rattle.bgp_list.specs.ConnectionJson.{refused_json};
 ghost use Rattle.bgp_list.specs.Forms.{line_json};
 ghost use Rattle.bgp_list.specs.Lines.{line_value};
@@ -23,16 +23,13 @@ use crate::putting::{
     put_detail_object, put_ended_object, put_listed_object, put_route_object, put_session_object,
     put_total_object, put_verdict_object,
 };
-use bgp_check::PeerAs;
-use bgp_ended::How;
 use bgp_import::Refusal;
-use bgp_json_verdicts::At;
+use bgp_json_verdicts::{At, Status};
 use bgp_judge::End;
-use bgp_list::{Line, put_fault_json, put_refused_json};
+use bgp_list::{How, Line, PeerAs, put_fault_json, put_refused_json};
 use bgp_path::Path;
 use bgp_rib::RibIn;
 use bgp_text::Lines;
-use bgp_tool::Status;
 use bgp_update::Destination;
 use bgp_why::Endpoint;
 use mrt::{CaptureFault, Sink};
@@ -301,8 +298,8 @@ impl CheckTeller {
         }
     }
 
-    /// Puts the object of a possible end with this number, and those of its routes, if they are asked
-    /// for.
+    /// Puts the object of a possible end with this number, and those of its routes, if they are
+    /// asked for.
     fn put_end<A: Allocator + Copy, B: Allocator, W: Sink>(
         &mut self,
         lines: &mut Lines<'_, W>,
@@ -337,7 +334,8 @@ impl CheckTeller {
         self.put_routes(lines, alloc, true, "route_before", number, &end.rib);
     }
 
-    /// Puts the objects of possible ends, numbered from 1, with their routes, if they are asked for.
+    /// Puts the objects of possible ends, numbered from 1, with their routes, if they are asked
+    /// for.
     fn put_ends<A: Allocator + Copy, B: Allocator, W: Sink>(
         &mut self,
         lines: &mut Lines<'_, W>,
@@ -384,9 +382,9 @@ impl CheckTeller {
         }
     }
 
-    /// Puts the objects of one more yes on an end: the verdict, each possible end, and if routes are
-    /// asked for, those of each, and the ends before with theirs. The number is that of the highest
-    /// state that its records tell, and the counts are those of the routes before.
+    /// Puts the objects of one more yes on an end: the verdict, each possible end, and if routes
+    /// are asked for, those of each, and the ends before with theirs. The number is that of the
+    /// highest state that its records show, and the counts are those of the routes before.
     pub fn put_yes<A: Allocator + Copy, B: Allocator, W: Sink>(
         &mut self,
         lines: &mut Lines<'_, W>,

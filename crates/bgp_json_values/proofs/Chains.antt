@@ -1,5 +1,5 @@
 -- What is appended in turn is appended together.
-use Rattle.std.proofs.Common.{◌∙◌, ◌++◌, ◌∷◌, [], List, Result, Ok, Err, ap, append_assoc}
+use Rattle.std.proofs.Common.{◌≡◌, ◌∙◌, ◌++◌, ◌∷◌, [], List, Result, Ok, Err, ap, append_assoc}
 use Rattle.json.specs.Token.{Token}
 use Rattle.json.specs.Written.{Written, Writes}
 use Rattle.bgp_json_values.specs.Adding.{Adds}
@@ -17,3 +17,7 @@ then {r = Ok v} {a} {s} {t} first second = record {
   before = second.before ∙ first.before;
 }
 then {r = Err e} first second = record { ok = tt; before = tt }
+
+-- tokens were appended, by two clauses
+pub adding : {E : Type 0} {a b : Written} {ts : List Token} → b.tokens ≡ a.tokens ++ ts → b.before ≡ a.before → Adds {E = E} (Ok tt) a b ts
+adding more before = record { ok = more; before = before }

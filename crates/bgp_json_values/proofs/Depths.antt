@@ -10,8 +10,8 @@ use Rattle.bgp_open.specs.Triplet.{Triplet}
 use Rattle.bgp_path.specs.declared.path.NextHop.{NextHop}
 use Rattle.bgp_attr.specs.Field.{Attribute}
 use Rattle.bgp_attr.specs.Segments.{WireSegment}
-use Rattle.bgp_update.specs.Destinations.{is_identified}
-use Rattle.bgp_update.specs.declared.destination.Destination.{Destination}
+use Rattle.bgp_values.specs.Destinations.{is_identified}
+use Rattle.bgp_values.specs.Destination.{Destination}
 use Rattle.bgp_values.specs.AttributeValue as attribute
 use Rattle.bgp_values.specs.AttributeValue.{AttributeValue, attribute_value}
 use Rattle.bgp_values.specs.CapabilityValue as capability

@@ -1,5 +1,5 @@
 -- Octets are what their parts spell: pieces of one size, segments, numbers.
-use Rattle.std.proofs.Common.{Result, Ok, Err, OnOk, append_assoc, ◌≡◌, ◌∙◌, ◌+◌, ◌*◌, ◌%◌, ◌<◌, ◌≤◌, ◌++◌, ◌∷◌, ℕ, zero, suc, List, [], Bool, true, false, refl, sym, ap, length, take, drop, nat_lt, arith, inl, inr, if◌then◌else◌, bytes_eq}
+use Rattle.std.proofs.Common.{◌≡◌, ◌∙◌, ◌+◌, ◌*◌, ◌%◌, ◌<◌, ◌≤◌, ◌++◌, ◌∷◌, ℕ, zero, suc, List, [], Bool, true, false, refl, sym, ap, length, take, drop, nat_lt, arith, inl, inr, if◌then◌else◌, bytes_eq}
 use Rattle.std.specs.List.{flat_map}
 use Rattle.std.proofs.lemmas.Bool.{and_parts, cases_Bool, eqb-true, ltb-false, ltb-true}
 use Rattle.std.proofs.lemmas.List.{get_or-drop, length-drop, length-take-le, nil_from_length, take-append-drop}
@@ -26,11 +26,6 @@ either P false x y first second = second refl
 
 pub equal : (xs ys : List ℕ) → xs ≡ ys → true ≡ bytes_eq xs ys
 equal xs ys same = sym ((bytes_eq-Decides xs ys).1 same)
-
--- octets were appended, and then more
-pub onto : {E : Type 0} (r : Result (Unit {0}) E) (old front back mid new : List ℕ) → mid ≡ old ++ front → OnOk r (new ≡ mid ++ back) → OnOk r (new ≡ old ++ (front ++ back))
-onto (Ok u) old front back mid new first second = second ∙ ap (λ (xs : List ℕ). xs ++ back) first ∙ append_assoc old front back
-onto (Err e) old front back mid new first second = tt
 
 -- ---- pieces
 

@@ -1,8 +1,9 @@
 pub mod Chains
 pub mod Members
 pub mod Joins
-pub mod Values
+pub mod HeadTexts
+pub mod FrontsCompared
+pub mod PrefixOctets
 pub mod AttributesSpelled
 pub mod CapabilitiesSpelled
 pub mod Depths
-pub mod Rooms

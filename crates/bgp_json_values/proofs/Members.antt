@@ -32,7 +32,17 @@ pub object : {E : Type 0} {u v : Unit {0}} {r : Result (Unit {0}) E} {a b c d : 
 object {r} {a} {d} ms opened inside ended =
     subst (λ (ts : List Token). Adds r a d (begin_object ∷ ts)) (sym (closed ms)) (then (one opened) (then inside (one ended)))
 
+-- members were put behind the opening brace, and then the closing one
+pub braced : {E : Type 0} {u : Unit {0}} {r : Result (Unit {0}) E} {a b c : Written} (ms : List (List ℕ × Json))
+    → Adds {E = E} (Ok u) a b (begin_object ∷ members_tokens ms) → Writes r b c end_object → Adds r a c (json_tokens (object_of ms))
+braced {r} {a} {c} ms inside ended = subst (λ (ts : List Token). Adds r a c (begin_object ∷ ts)) (sym (closed ms)) (then inside (one ended))
+
 -- the last member: its key and its value
 pub member : {E : Type 0} {u : Unit {0}} {r : Result (Unit {0}) E} {a b c : Written} (name : List ℕ) (value : Json) → Writes {E = E} (Ok u) a b (key name)
     → Adds r b c (json_tokens value) → Adds r a c (members_tokens ((name, value) ∷ []))
 member {r} {a} {c} name value named put = subst (λ (ts : List Token). Adds r a c (key name ∷ ts)) (sym (append-nil (json_tokens value))) (then (one named) put)
+
+-- the last value, behind what stands before it
+pub last : {E : Type 0} {u : Unit {0}} {r : Result (Unit {0}) E} {a b c : Written} (front : List Token) (value : Json) → Adds {E = E} (Ok u) a b front
+    → Adds r b c (json_tokens value) → Adds r a c (front ++ (json_tokens value ++ []))
+last {r} {a} {c} front value first put = subst (λ (ts : List Token). Adds r a c (front ++ ts)) (sym (append-nil (json_tokens value))) (then first put)

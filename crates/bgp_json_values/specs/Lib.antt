@@ -5,8 +5,13 @@ pub mod ItemJson
 pub mod Octets
 pub mod CapabilityJson
 pub mod AttributeJson
+pub mod Heads
+pub mod Fronts
 pub mod RoutesJson
+pub mod Left
 pub mod Unicast
 pub mod ErrorJson
 pub mod Times
-pub mod Rooms
+pub use Rattle.bgp_names.specs.Naming
+pub use Rattle.bgp_names.specs.States
+pub use Rattle.json_writer.specs.Piece

@@ -12,8 +12,8 @@ use Rattle.bgp_open.specs.Offer.{afi_of}
 use Rattle.bgp_open.specs.declared.route_form.RouteForm.{RouteForm}
 use Rattle.bgp_path.specs.declared.path.NextHop.{NextHop}
 use Rattle.bgp_path.specs.declared.path.NextHop.TheVariants as hops
-use Rattle.bgp_update.specs.Destinations.{is_identified}
-use Rattle.bgp_update.specs.declared.destination.Destination.{Destination}
+use Rattle.bgp_values.specs.Destinations.{is_identified}
+use Rattle.bgp_values.specs.Destination.{Destination}
 use Rattle.bgp_values.specs.RoutesValue.{RoutesValue, unicast, other}
 use Rattle.bgp_json_values.specs.Objects.{array_of, number_of, object_of}
 use Rattle.bgp_json_values.specs.Texts.{address_json, octets_json, prefix_json}

@@ -1,6 +1,6 @@
 //! Path attributes (RFC 4271, 4.3 and 5).
 
-ghost use Rattle.std.specs.Prelude.{◌≡◌, option_map};
+ghost use Rattle.std.specs.Prelude.{◌≡◌, codes, option_map};
 ghost use Rattle.json.specs.Tree.{json_tokens};
 ghost use Rattle.bgp_attr.specs.Field.{attribute_of};
 ghost use Rattle.bgp_attr.specs.Segments.{number_width};
@@ -10,20 +10,22 @@ ghost use Rattle.bgp_values.specs.PathSegments.{segment_of, segments_of};
 ghost use Rattle.bgp_json_values.specs.Adding.{Adds};
 ghost use Rattle.bgp_json_values.specs.AttributeJson.{as_item, attribute_json};
 ghost use Rattle.bgp_json_values.specs.AttributeJson.{attribute_value_json, attributes_json};
-ghost use Rattle.bgp_json_values.specs.AttributeJson.{origin_json, plain_members, said_members};
-ghost use Rattle.bgp_json_values.specs.AttributeJson.{segment_json, segment_name_json};
-ghost use Rattle.bgp_json_values.specs.AttributeJson.{width_member};
-ghost use Rattle.bgp_json_values.specs.Objects.{members_tokens};
+ghost use Rattle.bgp_json_values.specs.AttributeJson.{origin_json, plain_members, segment_json};
+ghost use Rattle.bgp_json_values.specs.Heads.{attribute_with};
+ghost use Rattle.bgp_json_values.specs.Octets.{octets_members, value_or_octets};
+ghost use Rattle.bgp_json_values.specs.RoutesJson.{routes_json, spelled_routes};
+ghost use Rattle.bgp_values.specs.RoutesValue.{reach_value, unreach_value};
 
+use crate::heads::{put_front, put_head, put_segment_head};
 use crate::items::put_items;
 use crate::octets::put_octets_member;
 use crate::routes::put_routes;
-use crate::texts::{put_address, put_name, put_number};
+use crate::texts::{put_address, put_number};
 use bgp_attr::{Attr, Attrs};
-use bgp_names::{name_of_attribute, name_of_origin, name_of_segment};
+use bgp_open::RouteForm;
 use bgp_prefix::Address;
 use bgp_values::{AttributeValue, Item, Reading, RoutesValue, Segment, first_segment};
-use json::Writer;
+use json_writer::Writer;
 use std::alloc::{AllocError, Allocator};
 
 /// The Attribute Type Code of MP_REACH_NLRI.
@@ -36,14 +38,12 @@ const MP_UNREACH_NLRI: u8 = 15;
 fn put_origin<A: Allocator>(writer: &mut Writer<A>, number: u8) -> Result<(), AllocError>
     ensures { Adds result writer.old writer.new (json_tokens (origin_json number)) }
 {
-    writer.string(name_of_origin(number).unwrap_or(""))
-}
-
-/// Puts the name of a type of segment.
-fn put_segment_name<A: Allocator>(writer: &mut Writer<A>, kind: u8) -> Result<(), AllocError>
-    ensures { Adds result writer.old writer.new (json_tokens (segment_name_json kind)) }
-{
-    writer.string(name_of_segment(kind).unwrap_or(""))
+    match number {
+        0 => writer.word("IGP"),
+        1 => writer.word("EGP"),
+        2 => writer.word("INCOMPLETE"),
+        _ => writer.word(""),
+    }
 }
 
 /// Returns what an AS number of four octets, or of two, is as an item.
@@ -67,10 +67,7 @@ fn put_segment<A: Allocator + Copy>(
     ensures { Adds result writer.old writer.new
         (json_tokens (segment_json as4 (segment_of segment.entry))) }
 {
-    writer.begin_object()?;
-    writer.key("kind")?;
-    put_segment_name(writer, segment.kind)?;
-    writer.key("as")?;
+    put_segment_head(writer, segment.kind)?;
     put_items(writer, alloc, as_item(as4), segment.numbers)?;
     writer.end_object()
 }
@@ -123,8 +120,8 @@ fn put_value<A: Allocator + Copy>(
     match value {
         AttributeValue::Origin(number) => put_origin(writer, number),
         AttributeValue::Path(as4, octets) => put_path(writer, alloc, as4, octets),
-        AttributeValue::Address(number) => put_address(writer, alloc, Address::V4(number)),
-        AttributeValue::Number(number) => writer.u64(u64::from(number)),
+        AttributeValue::Address(number) => writer.ipv4(number),
+        AttributeValue::Number(number) => writer.u32(number),
         AttributeValue::Atomic => writer.boolean(true),
         AttributeValue::Aggregator(as_number, router) => {
             put_aggregator(writer, alloc, as_number, router)
@@ -134,68 +131,93 @@ fn put_value<A: Allocator + Copy>(
     }
 }
 
-/// Puts how many octets AS numbers have in a value of this type, if OPENs settle it.
-fn put_width<A: Allocator>(writer: &mut Writer<A>, as4: bool, kind: u8) -> Result<(), AllocError>
-    ensures { Adds result writer.old writer.new (members_tokens (width_member as4 kind)) }
+/// Puts an attribute that says nothing that is read: its octets.
+#[cold]
+#[inline(never)]
+fn put_unread<A: Allocator + Copy>(
+    writer: &mut Writer<A>,
+    alloc: A,
+    kind: u8,
+    flags: u8,
+    octets: &[u8],
+) -> Result<(), AllocError>
+    ensures { Adds result writer.old writer.new
+        (json_tokens (attribute_with kind flags (octets_members octets.now))) }
 {
-    match kind {
-        2 | 7 => put_number(writer, "width", if as4 { 4 } else { 2 }),
-        _ => Ok(()),
-    }
+    put_head(writer, alloc, kind)?;
+    writer.u8(flags)?;
+    put_octets_member(writer, alloc, octets)?;
+    writer.end_object()
 }
 
-/// Puts what octets say as the value of an attribute of this type, or the octets.
-fn put_said<A: Allocator + Copy>(
+/// Puts an attribute without routes: what it says, or its octets.
+#[inline(always)]
+fn put_plain<A: Allocator + Copy>(
     writer: &mut Writer<A>,
     alloc: A,
     as4: bool,
     kind: u8,
+    flags: u8,
     octets: &[u8],
     value: Option<AttributeValue<'_>>,
 ) -> Result<(), AllocError>
     requires { option_map attribute_value_of value ≡ attribute_value as4 kind octets.now }
-    ensures { Adds result writer.old writer.new
-        (members_tokens (plain_members as4 kind octets.now
-        (option_map attribute_value_of value.entry))) }
+    ensures { Adds result writer.old writer.new (json_tokens (attribute_with kind flags
+        (plain_members as4 kind octets.now (option_map attribute_value_of value.entry)))) }
 {
     match value {
-        None => put_octets_member(writer, alloc, octets),
+        None => put_unread(writer, alloc, kind, flags, octets),
         Some(value) => {
-            put_width(writer, as4, kind)?;
-            writer.key("value")?;
-            put_value(writer, alloc, value)
+            put_front(writer, alloc, as4, kind, flags)?;
+            put_value(writer, alloc, value)?;
+            writer.end_object()
         }
     }
 }
 
-/// Puts what an attribute says, or its octets: both if the octets aren't those of the value.
-fn put_said_members<A: Allocator + Copy>(
+/// Puts MP_REACH_NLRI: what it says, or its octets, or both if the octets aren't those of the value.
+#[inline(never)]
+fn put_reach<A: Allocator + Copy>(
     writer: &mut Writer<A>,
     alloc: A,
-    reading: Reading,
-    attr: Attr<'_>,
+    form: RouteForm,
+    flags: u8,
+    octets: &[u8],
 ) -> Result<(), AllocError>
-    ensures { Adds result writer.old writer.new
-        (members_tokens (said_members reading (attribute_of attr.entry))) }
+    ensures { Adds result writer.old writer.new (json_tokens (attribute_with 14 flags
+        (value_or_octets (routes_json (codes "nlri") form) spelled_routes
+        (reach_value form octets.now) octets.now))) }
 {
-    let form = reading.form;
-    match attr.kind {
-        MP_REACH_NLRI => {
-            let value = RoutesValue::of_reach(form, attr.value);
-            put_routes(writer, alloc, "nlri", form, attr.value, value)
-        }
-        MP_UNREACH_NLRI => {
-            let value = RoutesValue::of_unreach(form, attr.value);
-            put_routes(writer, alloc, "withdrawn", form, attr.value, value)
-        }
-        kind => {
-            let value = AttributeValue::of(reading.as4, kind, attr.value);
-            put_said(writer, alloc, reading.as4, kind, attr.value, value)
-        }
-    }
+    let value = RoutesValue::of_reach(form, octets);
+    put_head(writer, alloc, MP_REACH_NLRI)?;
+    writer.u8(flags)?;
+    put_routes(writer, alloc, "nlri", form, octets, value)?;
+    writer.end_object()
+}
+
+/// Puts MP_UNREACH_NLRI: what it says, or its octets, or both if the octets aren't those of the
+/// value.
+#[inline(never)]
+fn put_unreach<A: Allocator + Copy>(
+    writer: &mut Writer<A>,
+    alloc: A,
+    form: RouteForm,
+    flags: u8,
+    octets: &[u8],
+) -> Result<(), AllocError>
+    ensures { Adds result writer.old writer.new (json_tokens (attribute_with 15 flags
+        (value_or_octets (routes_json (codes "withdrawn") form) spelled_routes
+        (unreach_value form octets.now) octets.now))) }
+{
+    let value = RoutesValue::of_unreach(form, octets);
+    put_head(writer, alloc, MP_UNREACH_NLRI)?;
+    writer.u8(flags)?;
+    put_routes(writer, alloc, "withdrawn", form, octets, value)?;
+    writer.end_object()
 }
 
 /// Puts a path attribute.
+#[inline(always)]
 fn put_attribute<A: Allocator + Copy>(
     writer: &mut Writer<A>,
     alloc: A,
@@ -205,20 +227,22 @@ fn put_attribute<A: Allocator + Copy>(
     ensures { Adds result writer.old writer.new
         (json_tokens (attribute_json reading (attribute_of attr.entry))) }
 {
-    let kind = attr.kind;
-    writer.begin_object()?;
-    put_number(writer, "type", u64::from(kind))?;
-    writer.key("name")?;
-    put_name(
-        writer,
-        alloc,
-        "attribute ",
-        u64::from(kind),
-        name_of_attribute(kind),
-    )?;
-    put_number(writer, "flags", u64::from(attr.flags))?;
-    put_said_members(writer, alloc, reading, attr)?;
-    writer.end_object()
+    match attr.kind {
+        MP_REACH_NLRI => put_reach(writer, alloc, reading.form, attr.flags, attr.value),
+        MP_UNREACH_NLRI => put_unreach(writer, alloc, reading.form, attr.flags, attr.value),
+        kind => {
+            let value = AttributeValue::of(reading.as4, kind, attr.value);
+            put_plain(
+                writer,
+                alloc,
+                reading.as4,
+                kind,
+                attr.flags,
+                attr.value,
+                value,
+            )
+        }
+    }
 }
 
 /// Puts path attributes, as an array. AS numbers and routes are read so.

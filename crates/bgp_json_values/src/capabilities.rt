@@ -21,7 +21,7 @@ use crate::texts::{put_name, put_number, put_truth};
 use bgp_names::{name_of_capability, name_of_role};
 use bgp_open::{Capabilities, Capability};
 use bgp_values::{CapabilityValue, Item};
-use json::Writer;
+use json_writer::Writer;
 use std::alloc::{AllocError, Allocator};
 
 /// Puts the name of a role.

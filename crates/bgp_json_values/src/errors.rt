@@ -16,7 +16,7 @@ use crate::texts::{put_name, put_number, put_octets};
 use bgp_names::{has_subcode, name_of_code, name_of_subcode};
 use bgp_open::Notification;
 use bgp_values::{ErrorData, cause_of};
-use json::Writer;
+use json_writer::Writer;
 use std::alloc::{AllocError, Allocator};
 
 /// Returns the name of an error code, or `code N`.

@@ -8,13 +8,12 @@ ghost use Rattle.bgp_json_values.specs.ItemJson.{family_at, family_members, item
 ghost use Rattle.bgp_json_values.specs.ItemJson.{way_json};
 ghost use Rattle.bgp_json_values.specs.Objects.{members_tokens};
 
-use crate::room::{precede_decimal, precede_part, text_from};
 use crate::texts::{put_address, put_number, put_octets, put_truth};
 use bgp_names::name_of_way;
 use bgp_prefix::Address;
 use bgp_values::{Item, first_piece, has_bits};
 use byteorder::{BigEndian, ByteOrder};
-use json::Writer;
+use json_writer::Writer;
 use std::alloc::{AllocError, Allocator};
 
 /// Returns the octets behind so many.
@@ -108,9 +107,6 @@ fn put_long_lived_family<A: Allocator>(
     writer.end_object()
 }
 
-/// How many octets two numbers of 16 bits have in decimal at the most, with a colon between them.
-const TWO_HALVES: usize = 11;
-
 /// Puts a community: its two halves.
 fn put_community<A: Allocator>(writer: &mut Writer<A>, octets: &[u8]) -> Result<(), AllocError>
     requires { length octets.now ≡ 4 }
@@ -119,14 +115,8 @@ fn put_community<A: Allocator>(writer: &mut Writer<A>, octets: &[u8]) -> Result<
 {
     let high = BigEndian::read_u16(octets);
     let low = BigEndian::read_u16(behind(2, octets));
-    let mut room = [0; TWO_HALVES];
-    let start = precede_part(&mut room, TWO_HALVES, b':', u32::from(low));
-    let start = precede_decimal(&mut room, start, u32::from(high));
-    writer.string(text_from(&room, start))
+    writer.pair(u32::from(high), u32::from(low))
 }
-
-/// How many octets three numbers of 32 bits have in decimal at the most, with colons between them.
-const THREE_NUMBERS: usize = 32;
 
 /// Puts a large community: its three numbers.
 fn put_large_community<A: Allocator>(
@@ -140,14 +130,11 @@ fn put_large_community<A: Allocator>(
     let first = BigEndian::read_u32(octets);
     let second = BigEndian::read_u32(behind(4, octets));
     let third = BigEndian::read_u32(behind(8, octets));
-    let mut room = [0; THREE_NUMBERS];
-    let start = precede_part(&mut room, THREE_NUMBERS, b':', third);
-    let start = precede_part(&mut room, start, b':', second);
-    let start = precede_decimal(&mut room, start, first);
-    writer.string(text_from(&room, start))
+    writer.triple(first, second, third)
 }
 
 /// Puts an item.
+#[inline(always)]
 fn put_item<A: Allocator + Copy>(
     writer: &mut Writer<A>,
     alloc: A,
@@ -162,8 +149,8 @@ fn put_item<A: Allocator + Copy>(
         Item::RestartFamily => put_restart_family(writer, octets),
         Item::PathFamily => put_path_family(writer, octets),
         Item::LongLivedFamily => put_long_lived_family(writer, octets),
-        Item::AsNumber2 => writer.u64(u64::from(BigEndian::read_u16(octets))),
-        Item::AsNumber4 => writer.u64(u64::from(BigEndian::read_u32(octets))),
+        Item::AsNumber2 => writer.u32(u32::from(BigEndian::read_u16(octets))),
+        Item::AsNumber4 => writer.u32(BigEndian::read_u32(octets)),
         Item::Community => put_community(writer, octets),
         Item::ExtendedCommunity => put_octets(writer, alloc, octets),
         Item::LargeCommunity => put_large_community(writer, octets),
@@ -171,8 +158,10 @@ fn put_item<A: Allocator + Copy>(
     }
 }
 
-/// Puts the items that octets are, as an array.
-pub(crate) fn put_items<A: Allocator + Copy>(
+/// Puts the items that octets are, as an array. It is made for an item that is known where it is
+/// called.
+#[inline(always)]
+fn put_each<A: Allocator + Copy>(
     writer: &mut Writer<A>,
     alloc: A,
     item: Item,
@@ -188,4 +177,23 @@ pub(crate) fn put_items<A: Allocator + Copy>(
         rest = others;
     }
     writer.end_array()
+}
+
+/// Puts the items that octets are, as an array.
+pub(crate) fn put_items<A: Allocator + Copy>(
+    writer: &mut Writer<A>,
+    alloc: A,
+    item: Item,
+    octets: &[u8],
+) -> Result<(), AllocError>
+    ensures { Adds result writer.old writer.new
+        (json_tokens (items_json item (items_of item octets.now))) }
+{
+    match item {
+        Item::AsNumber4 => put_each(writer, alloc, Item::AsNumber4, octets),
+        Item::AsNumber2 => put_each(writer, alloc, Item::AsNumber2, octets),
+        Item::Community => put_each(writer, alloc, Item::Community, octets),
+        Item::LargeCommunity => put_each(writer, alloc, Item::LargeCommunity, octets),
+        _ => put_each(writer, alloc, item, octets),
+    }
 }

@@ -6,7 +6,7 @@ ghost use Rattle.bgp_json_values.specs.Objects.{members_tokens};
 ghost use Rattle.bgp_json_values.specs.Octets.{octets_members};
 
 use crate::texts::put_octets;
-use json::Writer;
+use json_writer::Writer;
 use std::alloc::{AllocError, Allocator};
 
 /// Puts the member that octets are.

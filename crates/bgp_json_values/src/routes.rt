@@ -1,6 +1,6 @@
 //! The two attributes that have routes of other families (RFC 4760, 3 and 4).
 
-ghost use Rattle.std.specs.Prelude.{◌≡◌, map, option_map};
+ghost use Rattle.std.specs.Prelude.{◌≡◌, false, map, option_map, true};
 ghost use Rattle.json.specs.Tree.{json_tokens};
 ghost use Rattle.bgp_open.specs.Offer.{afi_of};
 ghost use Rattle.bgp_values.specs.RoutesValue.{routes_value_of};
@@ -10,20 +10,20 @@ ghost use Rattle.bgp_json_values.specs.Octets.{value_members, value_or_octets};
 ghost use Rattle.bgp_json_values.specs.RoutesJson.{hop_addresses, hop_json, hop_members};
 ghost use Rattle.bgp_json_values.specs.RoutesJson.{other_json, path_ids_members, routes_json};
 ghost use Rattle.bgp_json_values.specs.RoutesJson.{spelled_other, spelled_routes};
+ghost use Rattle.bgp_json_values.specs.RoutesJson.{spelled_unicast, unicast_json};
 ghost use Rattle.bgp_json_values.specs.Texts.{address_json};
 ghost use Rattle.bgp_json_values.specs.Unicast.{json_of, spelled_by};
 
-use crate::destinations::{listed, put_destinations, put_path_ids};
+use crate::destinations::{listed, put_destinations, put_path_ids, put_spelled};
 use crate::items::put_family;
 use crate::octets::{put_octets_member, put_unless};
-use crate::spelled_routes::{is_spelled_other, is_spelled_unicast};
+use crate::spelled_routes::{after_head, is_spelled_other, is_spelled_unicast};
 use crate::texts::{put_address, put_octets};
 use bgp_open::RouteForm;
 use bgp_path::NextHop;
 use bgp_prefix::{Address, Family};
-use bgp_update::Destination;
-use bgp_values::RoutesValue;
-use json::Writer;
+use bgp_values::{Destination, Destinations, RoutesValue};
+use json_writer::Writer;
 use std::alloc::{AllocError, Allocator};
 
 /// Unicast routes in JSON: what their destinations are called, whether path identifiers belong to
@@ -159,15 +159,91 @@ fn put_unicast_members<A: Allocator + Copy>(
         (value_members (json_of routes.entry) (spelled_by routes.entry) octets.now)) }
 {
     let is_spelled = is_spelled_unicast(
-        alloc,
         octets,
         routes.family,
         routes.next_hop,
         routes.destinations,
-    )?;
+    );
     writer.key("value")?;
     put_unicast(writer, alloc, routes)?;
     put_unless(writer, alloc, is_spelled, octets)
+}
+
+/// Puts unicast routes without path identifiers as the value of these octets, and the octets if it
+/// doesn't spell them.
+#[inline(always)]
+fn put_plain_unicast<A: Allocator + Copy>(
+    writer: &mut Writer<A>,
+    alloc: A,
+    octets: &[u8],
+    name: &'static str,
+    family: Family,
+    next_hop: Option<NextHop>,
+    destinations: Destinations<'_>,
+) -> Result<(), AllocError>
+    ensures { Adds result writer.old writer.new (members_tokens (value_members
+        (unicast_json name.now false family next_hop destinations.entry)
+        (spelled_unicast family next_hop destinations.entry) octets.now)) }
+{
+    let behind = after_head(family, next_hop, octets);
+    writer.key("value")?;
+    writer.begin_object()?;
+    put_family(writer, afi_of(family), 1)?;
+    put_hop_member(writer, alloc, next_hop)?;
+    writer.key(name)?;
+    let is_spelled = put_spelled(writer, alloc, destinations, behind)?;
+    writer.end_object()?;
+    put_unless(writer, alloc, is_spelled, octets)
+}
+
+/// Puts unicast routes with path identifiers as the value of these octets, and the octets if it
+/// doesn't spell them.
+#[inline(never)]
+fn put_identified<A: Allocator + Copy>(
+    writer: &mut Writer<A>,
+    alloc: A,
+    octets: &[u8],
+    name: &'static str,
+    family: Family,
+    next_hop: Option<NextHop>,
+    destinations: Destinations<'_>,
+) -> Result<(), AllocError>
+    ensures { Adds result writer.old writer.new (members_tokens (value_members
+        (unicast_json name.now true family next_hop destinations.entry)
+        (spelled_unicast family next_hop destinations.entry) octets.now)) }
+{
+    let destinations = listed(alloc, destinations)?;
+    let routes = Unicast {
+        name,
+        identified: true,
+        family,
+        next_hop,
+        destinations: destinations.as_slice(),
+    };
+    put_unicast_members(writer, alloc, octets, routes)
+}
+
+/// Puts unicast routes as the value of these octets, and the octets if it doesn't spell them.
+#[inline(always)]
+fn put_listed<A: Allocator + Copy>(
+    writer: &mut Writer<A>,
+    alloc: A,
+    octets: &[u8],
+    name: &'static str,
+    identified: bool,
+    family: Family,
+    next_hop: Option<NextHop>,
+    destinations: Destinations<'_>,
+) -> Result<(), AllocError>
+    ensures { Adds result writer.old writer.new (members_tokens (value_members
+        (unicast_json name.now identified family next_hop destinations.entry)
+        (spelled_unicast family next_hop destinations.entry) octets.now)) }
+{
+    if identified {
+        put_identified(writer, alloc, octets, name, family, next_hop, destinations)
+    } else {
+        put_plain_unicast(writer, alloc, octets, name, family, next_hop, destinations)
+    }
 }
 
 /// Puts octets of another family as the value of these octets, and the octets if it doesn't spell
@@ -183,7 +259,7 @@ fn put_other_members<A: Allocator + Copy>(
     ensures { Adds result writer.old writer.new (members_tokens (value_members
         (other_json afi safi rest.now) (spelled_other afi safi rest.now) octets.now)) }
 {
-    let is_spelled = is_spelled_other(alloc, octets, afi, safi, rest)?;
+    let is_spelled = is_spelled_other(octets, afi, safi, rest);
     writer.key("value")?;
     put_other(writer, alloc, afi, safi, rest)?;
     put_unless(writer, alloc, is_spelled, octets)
@@ -191,6 +267,7 @@ fn put_other_members<A: Allocator + Copy>(
 
 /// Puts what octets say of routes that are spelled in this form, with their destinations by this
 /// name, or the octets: both if the octets aren't those of the value.
+#[inline(always)]
 pub(crate) fn put_routes<A: Allocator + Copy>(
     writer: &mut Writer<A>,
     alloc: A,
@@ -219,15 +296,17 @@ pub(crate) fn put_routes<A: Allocator + Copy>(
                 destinations,
             },
         ) => {
-            let destinations = listed(alloc, destinations)?;
-            let routes = Unicast {
+            let identified = form.identified.contains(family);
+            put_listed(
+                writer,
+                alloc,
+                octets,
                 name,
-                identified: form.identified.contains(family),
+                identified,
                 family,
                 next_hop,
-                destinations: destinations.as_slice(),
-            };
-            put_unicast_members(writer, alloc, octets, routes)
+                destinations,
+            )
         }
     }
 }

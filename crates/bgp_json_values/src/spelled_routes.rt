@@ -1,55 +1,45 @@
 //! Whether routes of MP_REACH_NLRI and MP_UNREACH_NLRI spell their octets. They don't if the
 //! reserved octet or a bit behind a prefix isn't 0.
 
-ghost use Rattle.std.specs.Prelude.{◌≡◌, ◌++◌, IfOk, OnOk, bytes_eq, length};
+ghost use Rattle.std.specs.Prelude.{◌≡◌, ◌++◌, ◌∷◌, bytes_eq, length};
+ghost use Rattle.bgp_open.specs.Offer.{afi_of};
 ghost use Rattle.byteorder.specs.Endian.{big_bytes};
+ghost use Rattle.bgp_json_values.specs.Fronts.{IsAfter};
 ghost use Rattle.bgp_json_values.specs.RoutesJson.{spelled_hop, spelled_next_hop, spelled_numbers};
 ghost use Rattle.bgp_json_values.specs.RoutesJson.{spelled_other, spelled_unicast};
 
-use crate::destinations::spell_destinations;
+use crate::destinations::are_spelled;
+use crate::fronts::after;
 use crate::routes::afi_of;
 use bgp_path::NextHop;
 use bgp_prefix::Family;
-use bgp_update::Destination;
-use std::alloc::{AllocError, Allocator};
+use bgp_values::Destination;
 
-/// Appends an AFI of two octets and a SAFI of one.
-fn spell_numbers<A: Allocator>(out: &mut Vec<u8, A>, afi: u16, safi: u8) -> Result<(), AllocError>
-    ensures { OnOk result (out.new.items ≡ out.old.items ++ spelled_numbers afi safi) }
+/// Returns what is left of octets after an AFI of two octets and a SAFI of one, if they begin with
+/// these.
+fn after_numbers(afi: u16, safi: u8, octets: &[u8]) -> Option<&[u8]>
+    ensures { IsAfter (spelled_numbers afi safi) octets.entry.now result }
 {
-    out.extend_from_slice(&afi.to_be_bytes())?;
-    out.push(safi)?;
-    Ok(())
+    let rest = after(&afi.to_be_bytes(), octets)?;
+    after(&[safi], rest)
 }
 
-/// Appends the octets of an IPv6 address.
-fn spell_address<A: Allocator>(out: &mut Vec<u8, A>, address: u128) -> Result<(), AllocError>
-    ensures { OnOk result (out.new.items ≡ out.old.items ++ big_bytes 16 address) }
+/// Returns what is left of octets after two IPv6 addresses, if they begin with these.
+fn after_pair(first: u128, second: u128, octets: &[u8]) -> Option<&[u8]>
+    ensures { IsAfter (big_bytes 16 first ++ big_bytes 16 second) octets.entry.now result }
 {
-    out.extend_from_slice(&address.to_be_bytes())
+    let rest = after(&first.to_be_bytes(), octets)?;
+    after(&second.to_be_bytes(), rest)
 }
 
-/// Appends the octets of two IPv6 addresses.
-fn spell_pair<A: Allocator>(
-    out: &mut Vec<u8, A>,
-    first: u128,
-    second: u128,
-) -> Result<(), AllocError>
-    ensures { OnOk result (out.new.items
-        ≡ out.old.items ++ (big_bytes 16 first ++ big_bytes 16 second)) }
-{
-    spell_address(out, first)?;
-    spell_address(out, second)
-}
-
-/// Appends the octets of a next hop.
-fn spell_hop<A: Allocator>(out: &mut Vec<u8, A>, hop: NextHop) -> Result<(), AllocError>
-    ensures { OnOk result (out.new.items ≡ out.old.items ++ spelled_hop hop) }
+/// Returns what is left of octets after a next hop, if they begin with it.
+fn after_hop(hop: NextHop, octets: &[u8]) -> Option<&[u8]>
+    ensures { IsAfter (spelled_hop hop) octets.entry.now result }
 {
     match hop {
-        NextHop::V4(address) => out.extend_from_slice(&address.to_be_bytes()),
-        NextHop::V6(address) => spell_address(out, address),
-        NextHop::V6WithLinkLocal(address, link_local) => spell_pair(out, address, link_local),
+        NextHop::V4(address) => after(&address.to_be_bytes(), octets),
+        NextHop::V6(address) => after(&address.to_be_bytes(), octets),
+        NextHop::V6WithLinkLocal(address, link_local) => after_pair(address, link_local, octets),
     }
 }
 
@@ -64,56 +54,60 @@ fn hop_len(hop: NextHop) -> u8
     }
 }
 
-/// Appends the length of a next hop, the next hop, and the reserved octet, if there is one.
-fn spell_next_hop<A: Allocator>(
-    out: &mut Vec<u8, A>,
-    hop: Option<NextHop>,
-) -> Result<(), AllocError>
-    ensures { OnOk result (out.new.items ≡ out.old.items ++ spelled_next_hop hop) }
+/// Returns what is left of octets after the length of a next hop and the next hop, if they begin
+/// with these.
+fn after_counted_hop(hop: NextHop, octets: &[u8]) -> Option<&[u8]>
+    ensures { IsAfter (length (spelled_hop hop) ∷ spelled_hop hop) octets.entry.now result }
+{
+    let rest = after(&[hop_len(hop)], octets)?;
+    after_hop(hop, rest)
+}
+
+/// Returns what is left of octets after the length of a next hop, the next hop, and the reserved
+/// octet, if there is one and they begin with these.
+fn after_next_hop(hop: Option<NextHop>, octets: &[u8]) -> Option<&[u8]>
+    ensures { IsAfter (spelled_next_hop hop) octets.entry.now result }
 {
     match hop {
-        None => Ok(()),
+        None => Some(octets),
         Some(hop) => {
-            out.push(hop_len(hop))?;
-            spell_hop(out, hop)?;
-            out.push(0)?;
-            Ok(())
+            let rest = after_counted_hop(hop, octets)?;
+            after(&[0], rest)
         }
     }
 }
 
+/// Returns what is left of octets after the family and the next hop of unicast routes, if they
+/// begin with these.
+pub(crate) fn after_head(family: Family, hop: Option<NextHop>, octets: &[u8]) -> Option<&[u8]>
+    ensures { IsAfter (spelled_numbers (afi_of family) 1 ++ spelled_next_hop hop)
+        octets.entry.now result }
+{
+    let rest = after_numbers(afi_of(family), 1, octets)?;
+    after_next_hop(hop, rest)
+}
+
 /// Checks whether octets are those that unicast routes spell.
-pub(crate) fn is_spelled_unicast<A: Allocator>(
-    alloc: A,
+pub(crate) fn is_spelled_unicast(
     octets: &[u8],
     family: Family,
     hop: Option<NextHop>,
     destinations: &[Destination],
-) -> Result<bool, AllocError>
-    ensures { IfOk result (λ is_so. is_so
-        ≡ bytes_eq (spelled_unicast family hop destinations.now) octets.now) }
+) -> bool
+    ensures { result ≡ bytes_eq (spelled_unicast family hop destinations.now) octets.now }
 {
-    let mut spelled = Vec::new(alloc);
-    spelled.reserve(octets.len())?;
-    spell_numbers(&mut spelled, afi_of(family), 1)?;
-    spell_next_hop(&mut spelled, hop)?;
-    spell_destinations(&mut spelled, destinations)?;
-    Ok(spelled.as_slice() == octets)
+    match after_head(family, hop, octets) {
+        None => false,
+        Some(rest) => are_spelled(destinations, rest),
+    }
 }
 
 /// Checks whether octets are those of another family: AFI, SAFI and the rest.
-pub(crate) fn is_spelled_other<A: Allocator>(
-    alloc: A,
-    octets: &[u8],
-    afi: u16,
-    safi: u8,
-    rest: &[u8],
-) -> Result<bool, AllocError>
-    ensures { IfOk result (λ is_so. is_so
-        ≡ bytes_eq (spelled_other afi safi rest.now) octets.now) }
+pub(crate) fn is_spelled_other(octets: &[u8], afi: u16, safi: u8, rest: &[u8]) -> bool
+    ensures { result ≡ bytes_eq (spelled_other afi safi rest.now) octets.now }
 {
-    let mut spelled = Vec::new(alloc);
-    spell_numbers(&mut spelled, afi, safi)?;
-    spelled.extend_from_slice(rest)?;
-    Ok(spelled.as_slice() == octets)
+    match after_numbers(afi, safi, octets) {
+        None => false,
+        Some(others) => rest == others,
+    }
 }

@@ -12,9 +12,8 @@ ghost use Rattle.bgp_json_values.specs.Adding.{Adds};
 ghost use Rattle.bgp_json_values.specs.Objects.{members_tokens, number_of};
 ghost use Rattle.bgp_json_values.specs.Texts.{address_json, octets_json, prefix_json};
 
-use crate::room::{precede_address, precede_part, text_from};
 use bgp_prefix::{Address, Prefix};
-use json::Writer;
+use json_writer::Writer;
 use std::alloc::{AllocError, Allocator};
 
 /// Puts octets in hexadecimal.
@@ -25,24 +24,7 @@ pub fn put_octets<A: Allocator + Copy>(
 ) -> Result<(), AllocError>
     ensures { Adds result writer.old writer.new (json_tokens (octets_json octets.now)) }
 {
-    let text = hex::encode(alloc, octets)?;
-    writer.string(text.as_str())
-}
-
-/// How many octets the text of an IPv4 prefix has, with three digits for the length.
-const ROOM: usize = 19;
-
-/// How many octets the text of an IPv6 prefix has: eight groups of four digits and what stands
-/// between them, and three digits for the length.
-const IPV6_ROOM: usize = 43;
-
-/// Puts an IPv4 address.
-fn put_ipv4<A: Allocator>(writer: &mut Writer<A>, address: u32) -> Result<(), AllocError>
-    ensures { Adds result writer.old writer.new (json_tokens (address_json (V4 address))) }
-{
-    let mut room = [0; ROOM];
-    let start = precede_address(&mut room, ROOM, address);
-    writer.string(text_from(&room, start))
+    writer.hex(octets)
 }
 
 /// Puts an address.
@@ -53,30 +35,14 @@ pub fn put_address<A: Allocator + Copy>(
 ) -> Result<(), AllocError>
     ensures { Adds result writer.old writer.new (json_tokens (address_json address)) }
 {
-    if let Address::V4(number) = address {
-        return put_ipv4(writer, number);
+    match address {
+        Address::V4(number) => writer.ipv4(number),
+        Address::V6(number) => writer.ipv6(number),
     }
-    let mut text = String::with_capacity(alloc, IPV6_ROOM)?;
-    write!(text, "{address}")?;
-    writer.string(text.as_str())
-}
-
-/// Puts an IPv4 prefix: its lowest address, `/` and its length.
-fn put_ipv4_prefix<A: Allocator>(
-    writer: &mut Writer<A>,
-    address: u32,
-    length: u8,
-) -> Result<(), AllocError>
-    ensures { Adds result writer.old writer.new (json_tokens (string
-        (address_text (V4 address) ++ 47 ∷ decimal length))) }
-{
-    let mut room = [0; ROOM];
-    let start = precede_part(&mut room, ROOM, b'/', u32::from(length));
-    let start = precede_address(&mut room, start, address);
-    writer.string(text_from(&room, start))
 }
 
 /// Puts a prefix.
+#[inline(always)]
 pub fn put_prefix<A: Allocator + Copy>(
     writer: &mut Writer<A>,
     alloc: A,
@@ -84,12 +50,10 @@ pub fn put_prefix<A: Allocator + Copy>(
 ) -> Result<(), AllocError>
     ensures { Adds result writer.old writer.new (json_tokens (prefix_json prefix)) }
 {
-    if let Address::V4(address) = prefix.address() {
-        return put_ipv4_prefix(writer, address, prefix.length());
+    match prefix.address() {
+        Address::V4(address) => writer.ipv4_prefix(address, prefix.length()),
+        Address::V6(address) => writer.ipv6_prefix(address, prefix.length()),
     }
-    let mut text = String::with_capacity(alloc, IPV6_ROOM)?;
-    write!(text, "{prefix}")?;
-    writer.string(text.as_str())
 }
 
 /// Puts a word and a number.
@@ -125,6 +89,7 @@ pub fn put_name<A: Allocator + Copy>(
 }
 
 /// Puts a member that is a number.
+#[inline(always)]
 pub fn put_number<A: Allocator>(
     writer: &mut Writer<A>,
     key: &str,
@@ -138,6 +103,7 @@ pub fn put_number<A: Allocator>(
 }
 
 /// Puts a member that is a truth value.
+#[inline(always)]
 pub fn put_truth<A: Allocator>(
     writer: &mut Writer<A>,
     key: &str,

@@ -6,7 +6,7 @@ ghost use Rattle.bgp_json_values.specs.Times.{fraction_members, micro_members, t
 
 use crate::texts::put_number;
 use bgp_prefix::Seconds;
-use json::Writer;
+use json_writer::Writer;
 use std::alloc::{AllocError, Allocator};
 
 /// Puts microseconds. What isn't below 1,000,000 is no fraction of a second.

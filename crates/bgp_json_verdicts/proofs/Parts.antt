@@ -12,7 +12,7 @@ use Rattle.bgp_path.specs.declared.as_path.SegmentKind.TheVariants.{Sequence}
 use Rattle.bgp_json_values.specs.Adding.{Adds}
 use Rattle.bgp_json_values.specs.Objects.{array_of, in_array, number_of, values_tokens}
 use Rattle.bgp_json_values.proofs.Chains.{one, then}
-use Rattle.bgp_json.proofs.Tokens.{array_closed}
+use Rattle.bgp_tool.proofs.Tokens.{array_closed}
 use Rattle.bgp_json_verdicts.specs.RouteJson.{kind_values, list_members, path_values}
 
 -- ---- of elements one by one

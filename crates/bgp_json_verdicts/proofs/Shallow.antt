@@ -21,8 +21,8 @@ use Rattle.bgp_path.specs.declared.as_path.SegmentKind.TheVariants.{Set, Sequenc
 use Rattle.bgp_path.specs.declared.path.Aggregator.{Aggregator}
 use Rattle.bgp_update.specs.declared.destination.Destination.{Destination}
 use Rattle.bgp_why.specs.declared.place.Place.{Place}
-use Rattle.bgp_json.specs.Object.{typed}
-use Rattle.bgp_json.proofs.Shallow.{capture_shallow, recording_shallow}
+use Rattle.bgp_tool.specs.Object.{typed}
+use Rattle.bgp_tool.proofs.Shallow.{capture_shallow, recording_shallow}
 use Rattle.bgp_json_values.proofs.Depths.{AreWithin, array_depth, both_within, object_depth, time_within}
 use Rattle.bgp_json_values.specs.Objects.{in_array, number_of}
 use Rattle.bgp_json_values.specs.RoutesJson.{hop_addresses}

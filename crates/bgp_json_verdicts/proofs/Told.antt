@@ -7,8 +7,8 @@ use Rattle.mrt.specs.declared.sink.Sink as sinks
 use Rattle.bgp_text.specs.Lines.{Writes}
 use Rattle.bgp_text.specs.declared.lines.Lines.{Lines}
 use Rattle.bgp_text.proofs.Pieces.{Joins, and_nothing, and_then, nothing_yet}
-use Rattle.bgp_json.specs.Line.{IsOneValue}
-use Rattle.bgp_json.specs.Object.{json_line}
+use Rattle.bgp_tool.specs.Line.{IsOneValue}
+use Rattle.bgp_tool.specs.Object.{json_line}
 use Rattle.bgp_json_verdicts.specs.Lines.{LineValue, line_text}
 use Rattle.bgp_json_verdicts.specs.Objects.{counted_from, counted_with, line_json, objects_from}
 use Rattle.bgp_json_verdicts.specs.Telling.{AreValues, PutsObjects, Tells, TellsText, lines_of}

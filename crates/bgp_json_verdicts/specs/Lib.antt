@@ -3,3 +3,7 @@ pub mod Lines
 pub mod RouteJson
 pub mod Objects
 pub mod Telling
+pub use Rattle.bgp_tool.specs.Answer
+pub use Rattle.bgp_tool.specs.CaptureDecoding
+pub use Rattle.bgp_tool.specs.Status
+pub use Rattle.bgp_tool.specs.VerdictText

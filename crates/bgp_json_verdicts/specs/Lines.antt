@@ -17,7 +17,7 @@ use Rattle.bgp_machine.specs.State.{number_of}
 use Rattle.bgp_machine.specs.declared.fsm.Fsm.{Fsm}
 use Rattle.bgp_update.specs.declared.destination.Destination.{Destination}
 use Rattle.bgp_judge.specs.Verdict.{VerdictValue, Yes, No, Unfinished}
-use Rattle.bgp_reason.specs.declared.kinds.Possible as possible
+use Rattle.bgp_why.specs.DeclaredPossible as possible
 use Rattle.bgp_names.specs.States.{state_name}
 use Rattle.bgp_text.specs.Capture.{refused_line}
 use Rattle.bgp_import.specs.ListText.{opening_text}

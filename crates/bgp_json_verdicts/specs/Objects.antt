@@ -27,8 +27,8 @@ use Rattle.bgp_json_values.specs.ErrorJson.{error_name_json}
 use Rattle.bgp_json_values.specs.Objects.{array_of, number_of, object_of}
 use Rattle.bgp_json_values.specs.Texts.{address_json}
 use Rattle.bgp_json_values.specs.Times.{time_members}
-use Rattle.bgp_json.specs.Object.{typed}
-use Rattle.bgp_json.specs.Others.{capture_json, recording_json}
+use Rattle.bgp_tool.specs.Object.{typed}
+use Rattle.bgp_tool.specs.Others.{capture_json, recording_json}
 use Rattle.bgp_json_verdicts.specs.At.{at_members, place_members, since_members}
 use Rattle.bgp_json_verdicts.specs.Lines.{LineValue, Opens, Answers, Ends, HasRoute, Reasons}
 use Rattle.bgp_json_verdicts.specs.Lines.{RefusesCapture, Refuses}

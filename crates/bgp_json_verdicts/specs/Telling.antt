@@ -6,8 +6,8 @@ use Rattle.json.specs.Json.{Json}
 use Rattle.mrt.specs.declared.sink.Sink as sinks
 use Rattle.bgp_text.specs.Lines.{Writes}
 use Rattle.bgp_text.specs.declared.lines.Lines.{Lines}
-use Rattle.bgp_json.specs.Line.{IsOneValue}
-use Rattle.bgp_json.specs.Object.{json_line}
+use Rattle.bgp_tool.specs.Line.{IsOneValue}
+use Rattle.bgp_tool.specs.Object.{json_line}
 use Rattle.bgp_json_verdicts.specs.Lines.{LineValue, line_text}
 use Rattle.bgp_json_verdicts.specs.Objects.{counted_from, counted_with, line_json}
 use Rattle.bgp_json_verdicts.specs.Objects.{objects_from}

@@ -4,9 +4,8 @@ ghost use Rattle.bgp_json_values.specs.Adding.{Adds};
 ghost use Rattle.bgp_json_values.specs.Objects.{members_tokens};
 ghost use Rattle.bgp_json_verdicts.specs.Objects.{answer_members};
 
-use bgp_json::put_text;
-use bgp_json_values::put_number;
-use json::Writer;
+use bgp_json_values::{Writer, put_number};
+use bgp_tool::put_text;
 use std::alloc::{AllocError, Allocator};
 
 /// What a verdict answers.

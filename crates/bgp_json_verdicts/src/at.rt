@@ -6,10 +6,9 @@ ghost use Rattle.bgp_json_values.specs.Objects.{members_tokens};
 ghost use Rattle.bgp_json_verdicts.specs.At.{at_if, at_members, at_of, dated_members};
 ghost use Rattle.bgp_json_verdicts.specs.At.{number_members, place_members, since_members};
 
-use bgp_json_values::{put_number, put_time, put_truth};
+use bgp_json_values::{Writer, put_number, put_time, put_truth};
 use bgp_prefix::Seconds;
 use bgp_why::Place;
-use json::Writer;
 use std::alloc::{AllocError, Allocator};
 
 /// How many seconds a day has.

@@ -26,6 +26,7 @@ mod verdict_line;
 
 pub use answer::Answer;
 pub use at::{At, put_number_if, put_place};
+pub use bgp_tool::{Status, hand_over, put_verdict};
 pub use object::{put_families, put_written};
 pub use reason::{put_octets_text, put_reason, put_state, reason_type};
 pub use reason_line::ReasonLine;

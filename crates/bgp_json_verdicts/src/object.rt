@@ -4,8 +4,8 @@ ghost use Rattle.std.specs.Prelude.{◌≡◌, ◌≤◌, ◌∷◌, [], OnOk, c
 ghost use Rattle.json.specs.Json.{Json, max_depth, string};
 ghost use Rattle.json.specs.Token as tokens;
 ghost use Rattle.json.specs.Tree.{depth, json_tokens};
-ghost use Rattle.bgp_json.specs.Line.{PutsLine};
-ghost use Rattle.bgp_json.specs.Object.{json_line, typed};
+ghost use Rattle.bgp_tool.specs.Line.{PutsLine};
+ghost use Rattle.bgp_tool.specs.Object.{json_line, typed};
 ghost use Rattle.bgp_json_values.specs.Adding.{Adds};
 ghost use Rattle.bgp_json_values.specs.Objects.{members_tokens, number_of, values_tokens};
 ghost use Rattle.bgp_json_verdicts.specs.Lines.{HasRoute, line_value, reason_value};
@@ -22,16 +22,15 @@ use crate::route::put_route;
 use crate::telling::Counts;
 use crate::verdict_line::VerdictLine;
 use bgp_import::Refusal;
-use bgp_json::{begin, put_json_recording_refusal};
-use bgp_json_values::put_number;
+use bgp_json_values::{Writer, put_number};
 use bgp_machine::Fsm;
 use bgp_open::Families;
 use bgp_path::Path;
 use bgp_prefix::Session;
 use bgp_text::Lines;
+use bgp_tool::{begin, put_json_recording_refusal};
 use bgp_update::Destination;
 use bgp_values::Direction;
-use json::Writer;
 use mrt::Sink;
 use std::alloc::{AllocError, Allocator};
 use streams::{Fault, Opening, Side};
@@ -41,7 +40,7 @@ fn start<A: Allocator>(alloc: A) -> Writer<A>
     ensures before { result.before ≡ [] }
     ensures tokens { result.tokens ≡ [] }
 {
-    Writer::new(Vec::new(alloc))
+    Writer::new(alloc)
 }
 
 /// Puts the line of what was written, or nothing if memory was refused for it.

@@ -5,9 +5,8 @@ ghost use Rattle.bgp_json_values.specs.Objects.{members_tokens};
 ghost use Rattle.bgp_json_verdicts.specs.Objects.{end_at, opening_members};
 
 use bgp_import::{end_of, other_side};
-use bgp_json_values::{put_address, put_number, put_time};
+use bgp_json_values::{Writer, put_address, put_number, put_time};
 use bgp_prefix::Session;
-use json::Writer;
 use segments::Endpoint;
 use std::alloc::{AllocError, Allocator};
 use streams::Opening;

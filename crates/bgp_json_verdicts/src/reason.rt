@@ -11,13 +11,12 @@ ghost use Rattle.bgp_json_verdicts.specs.Objects.{state_member, text_behind, tex
 
 use crate::at::{At, put_at, put_place, put_since};
 use crate::reason_line::ReasonLine;
-use bgp_json::put_text;
-use bgp_json_values::{put_address, put_error_name, put_name, put_number, put_truth};
+use bgp_json_values::{Writer, put_address, put_error_name, put_name, put_number, put_truth};
 use bgp_machine::Fsm;
 use bgp_names::name_of_state;
 use bgp_prefix::Address;
+use bgp_tool::put_text;
 use bgp_why::{Place, unfit_text};
-use json::Writer;
 use mrt::Endpoints;
 use std::alloc::{AllocError, Allocator};
 

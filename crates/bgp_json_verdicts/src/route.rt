@@ -18,12 +18,11 @@ ghost use Rattle.bgp_json_verdicts.specs.RouteJson.{reflection_members, route_me
 ghost use Rattle.bgp_json_verdicts.specs.RouteJson.{router_json, router_members, single_members};
 
 use crate::at::put_number_if;
-use bgp_json::put_text;
-use bgp_json_values::{put_address, put_number, put_octets, put_prefix, put_truth};
+use bgp_json_values::{Writer, put_address, put_number, put_octets, put_prefix, put_truth};
 use bgp_path::{Aggregator, LargeCommunity, NextHop, Origin, Path, Segment, SegmentKind};
 use bgp_prefix::Address;
+use bgp_tool::put_text;
 use bgp_update::{Destination, PathId};
-use json::Writer;
 use std::alloc::{AllocError, Allocator};
 
 /// Puts an IPv4 address.

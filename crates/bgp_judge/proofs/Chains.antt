@@ -2,7 +2,7 @@
 use Rattle.std.proofs.Common.{◌≡◌, inl, inr, List, [], ◌∷◌, ◌++◌, refl, sym, ap, subst, ◌∙◌, append_assoc, append-nil}
 use Rattle.bgp_prefix.specs.Shown.{ShownRecord}
 use Rattle.bgp_open.specs.declared.config.Config.{Config}
-use Rattle.bgp_rib.specs.Routes.{Routes, no_routes}
+use Rattle.bgp_machine.specs.Routes.{Routes, no_routes}
 use Rattle.bgp_machine.specs.declared.state.Head.{Head}
 use Rattle.bgp_machine.specs.Lists.{Has, Each}
 use Rattle.bgp_machine.specs.Owed.{EachOwedCanBeMet}

@@ -16,7 +16,7 @@ use Rattle.bgp_machine.specs.Shows.{Pays}
 use Rattle.bgp_machine.specs.State.{Turn, link_at}
 use Rattle.bgp_machine.specs.Step.{Hidden}
 use Rattle.bgp_machine.specs.Want.{wants_of}
-use Rattle.bgp_update.specs.Changes.{RouteChanges}
+use Rattle.bgp_machine.specs.Changes.{RouteChanges}
 use Rattle.bgp_machine.proofs.RowByRow.{has_left, has_right, has_either, each_more, each_weaker}
 use Rattle.bgp_judge.specs.Next.{Opens}
 use Rattle.bgp_judge.specs.Openings.{ListsOpenings, IsOpened, IsOwn, Keeps, unshown_of}

@@ -7,17 +7,17 @@ use Rattle.bgp_open.specs.declared.config.Config.{Config}
 use Rattle.bgp_open.specs.declared.families.Families.{Families}
 use Rattle.bgp_open.specs.declared.link.Link.{Link}
 use Rattle.bgp_open.specs.Families.{contains}
-use Rattle.bgp_attr.specs.Split.{attributes_of}
-use Rattle.bgp_update.specs.declared.outcomes.Outcomes.{Outcomes}
-use Rattle.bgp_update.specs.Allowed.{Allows}
-use Rattle.bgp_update.specs.Changes.{RouteChanges, announcements, destinations_among, withdrawals}
-use Rattle.bgp_update.specs.Disabled.{IsCertain}
-use Rattle.bgp_update.specs.Found.{found}
-use Rattle.bgp_update.specs.Laws.{HasAnOutcome}
-use Rattle.bgp_update.specs.Outcome.{Outcome, Applied, Reset, IsOutcome, IsOnlyReset}
-use Rattle.bgp_update.specs.ResetFaults.{HasReset}
-use Rattle.bgp_update.specs.Sections.{Sections, IsUpdate}
-use Rattle.bgp_update.specs.WithdrawFaults.{HasWithdrawFault}
+use Rattle.bgp_machine.specs.Split.{attributes_of}
+use Rattle.bgp_machine.specs.Outcomes.{Outcomes}
+use Rattle.bgp_machine.specs.Allowed.{Allows}
+use Rattle.bgp_machine.specs.Changes.{RouteChanges, announcements, destinations_among, withdrawals}
+use Rattle.bgp_machine.specs.Disabled.{IsCertain}
+use Rattle.bgp_machine.specs.Found.{found}
+use Rattle.bgp_machine.specs.Laws.{HasAnOutcome}
+use Rattle.bgp_machine.specs.Outcome.{Outcome, Applied, Reset, IsOutcome, IsOnlyReset}
+use Rattle.bgp_machine.specs.ResetFaults.{HasReset}
+use Rattle.bgp_machine.specs.Sections.{Sections, IsUpdate}
+use Rattle.bgp_machine.specs.WithdrawFaults.{HasWithdrawFault}
 use Rattle.bgp_machine.specs.declared.hearing.Heard.{Heard}
 use Rattle.bgp_machine.specs.declared.hearing.Heard.TheVariants.{TooShort, ValidOpen, FaultyHeader, InvalidOpen, BadVersion, Notification, Keepalive, Update}
 use Rattle.bgp_machine.specs.declared.rows.ReceivedRow.{ReceivedRow}

@@ -4,12 +4,12 @@ use Rattle.bgp_prefix.specs.Shown.{ShownRecord, Received, Sent, Changed}
 use Rattle.bgp_open.specs.declared.config.Config.{Config}
 use Rattle.bgp_open.specs.declared.families.Families.{Families}
 use Rattle.bgp_open.specs.declared.link.Link.{Link}
-use Rattle.bgp_update.specs.Changes.{RouteChanges}
-use Rattle.bgp_update.specs.Outcome.{IsOutcome, Applied}
-use Rattle.bgp_update.proofs.OneOutcome.{one_change}
+use Rattle.bgp_machine.specs.Changes.{RouteChanges}
+use Rattle.bgp_machine.specs.Outcome.{IsOutcome, Applied}
+use Rattle.bgp_machine.proofs.OneOutcome.{one_change}
 use Rattle.bgp_open.specs.Families.{union}
-use Rattle.bgp_rib.specs.Routes.{Routes, AreRoutes, no_routes, routes_after, routes_without}
-use Rattle.bgp_rib.proofs.RouteLaws.{none_are, changed_are, left_out}
+use Rattle.bgp_machine.specs.Routes.{Routes, AreRoutes, no_routes, routes_after, routes_without}
+use Rattle.bgp_machine.proofs.RouteLaws.{none_are, changed_are, left_out}
 use Rattle.bgp_machine.specs.declared.fsm.Fsm.{Fsm}
 use Rattle.bgp_machine.specs.declared.fsm.Fsm.TheVariants as fsms
 use Rattle.bgp_machine.specs.declared.hearing.Heard.{Heard}

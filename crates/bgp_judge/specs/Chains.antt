@@ -3,7 +3,7 @@
 use Rattle.std.specs.Prelude.{◌≡◌, ◌↔◌, List, [], ◌∷◌}
 use Rattle.bgp_prefix.specs.Shown.{ShownRecord}
 use Rattle.bgp_open.specs.declared.config.Config.{Config}
-use Rattle.bgp_rib.specs.Routes.{Routes, no_routes}
+use Rattle.bgp_machine.specs.Routes.{Routes, no_routes}
 use Rattle.bgp_machine.specs.Run.{Begins, End, IsComplete, end_of}
 use Rattle.bgp_judge.specs.Member.{Member, IsFree, fresh_member}
 use Rattle.bgp_judge.specs.Next.{Next}

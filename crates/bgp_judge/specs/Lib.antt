@@ -12,3 +12,4 @@ pub mod Memory
 pub mod Told
 pub mod Receiving
 pub mod Plain
+pub use Rattle.mrt.specs.Reader

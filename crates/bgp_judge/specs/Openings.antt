@@ -3,7 +3,7 @@ use Rattle.std.specs.Prelude.{◌≡◌, ◌≤◌, ◌⊎◌, ◌++◌, List, [
 use Rattle.bgp_prefix.specs.Shown.{ShownRecord, Received, Sent, Changed}
 use Rattle.bgp_wire.specs.Header.{header_of, type_of}
 use Rattle.bgp_open.specs.declared.config.Config.{Config}
-use Rattle.bgp_update.specs.Changes.{RouteChanges}
+use Rattle.bgp_machine.specs.Changes.{RouteChanges}
 use Rattle.bgp_machine.specs.declared.fsm.Fsm.{Fsm}
 use Rattle.bgp_machine.specs.declared.state.Head.{Head}
 use Rattle.bgp_machine.specs.declared.state.Head.TheVariants.{Established}

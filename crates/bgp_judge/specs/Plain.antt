@@ -3,7 +3,7 @@ use Rattle.std.specs.Prelude.{◌≡◌, ◌⊎◌, ◌<◌, ◌++◌, ℕ, List
 use Rattle.bgp_prefix.specs.Shown.{ShownRecord}
 use Rattle.bgp_open.specs.declared.config.Config.{Config}
 use Rattle.bgp_open.specs.declared.families.Families.{Families}
-use Rattle.bgp_update.specs.Changes.{RouteChanges}
+use Rattle.bgp_machine.specs.Changes.{RouteChanges}
 use Rattle.bgp_machine.specs.declared.state.Head.{Head}
 use Rattle.bgp_machine.specs.declared.step.Step.{Step}
 use Rattle.bgp_machine.specs.Listed.{turn_of}

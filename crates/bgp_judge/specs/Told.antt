@@ -7,9 +7,9 @@ use Rattle.bgp_open.specs.declared.families.Families.{Families}
 use Rattle.bgp_open.specs.declared.link.Link.{Link}
 use Rattle.bgp_open.specs.Link.{link_of}
 use Rattle.bgp_open.specs.Open.{open_of}
-use Rattle.bgp_update.specs.Changes.{RouteChanges}
-use Rattle.bgp_update.specs.Outcome.{IsOutcome, Applied}
-use Rattle.bgp_rib.specs.Routes.{Routes, no_routes, routes_after, routes_without}
+use Rattle.bgp_machine.specs.Changes.{RouteChanges}
+use Rattle.bgp_machine.specs.Outcome.{IsOutcome, Applied}
+use Rattle.bgp_machine.specs.Routes.{Routes, no_routes, routes_after, routes_without}
 use Rattle.bgp_machine.specs.declared.fsm.Fsm.{Fsm}
 use Rattle.bgp_machine.specs.declared.fsm.Fsm.TheVariants as fsms
 use Rattle.bgp_machine.specs.Going.{fsm_at}

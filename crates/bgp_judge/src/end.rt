@@ -1,7 +1,6 @@
 //! Where a session's records may have left it.
 
-use bgp_machine::Fsm;
-use bgp_rib::RibIn;
+use bgp_machine::{Fsm, RibIn};
 use std::alloc::{Allocator, Global};
 
 /// A possible end: what a run leaves that shows just the records.

@@ -8,9 +8,8 @@ ghost use Rattle.bgp_judge.specs.Told.{EachRunIsAsTold, HasOneEnd, HasOneTable, 
 ghost use Rattle.bgp_judge.specs.Verdict.{HasOneVerdict, NeverNone};
 
 use crate::tracker::Tracker;
-use bgp_machine::{Head, each_owed_want_can_be_met, hear};
+use bgp_machine::{Head, each_owed_want_can_be_met, hear, read_update, some_outcome};
 use bgp_open::{Config, Link};
-use bgp_update::{read_update, some_outcome};
 use std::alloc::Allocator;
 
 /// States that a session's records settle, for each run that shows them, the name of its state, the

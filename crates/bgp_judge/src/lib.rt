@@ -33,6 +33,7 @@ pub use laws::{
 };
 pub use member::PlainMember;
 pub use members::next_members;
+pub use mrt::Record;
 pub use opening::{OpenedSteps, list_openings, openings};
 pub use plain::PlainTracker;
 pub use tracker::Tracker;

@@ -8,9 +8,10 @@ ghost use Rattle.bgp_judge.specs.Member.{IsFree, fresh_member, link_for};
 ghost use Rattle.bgp_judge.specs.Plain.{member_value};
 
 use crate::unshown::Unshown;
-use bgp_machine::{State, Wants, same_change, same_head, same_link, same_wants};
+use bgp_machine::{
+    RibIn, State, Wants, equality_is_real, same_change, same_head, same_link, same_wants,
+};
 use bgp_open::Link;
-use bgp_rib::{RibIn, equality_is_real};
 use std::alloc::{AllocError, Allocator, Global};
 
 /// One explanation of the records so far: the session machine's steps led to a state, and the last

@@ -1,7 +1,7 @@
 //! Lists of whole members, and what becomes of them by one record more.
 
 ghost use Rattle.std.specs.Prelude.{◌≡◌, ◌≢◌, ◌↔◌, [], OnOk, IfOk, IsTrue, option_copied};
-ghost use Rattle.bgp_update.specs.Changes.{RouteChanges};
+ghost use Rattle.bgp_machine.specs.Changes.{RouteChanges};
 ghost use Rattle.bgp_machine.specs.Listed.{changes_of};
 ghost use Rattle.bgp_machine.specs.State.{state_value};
 ghost use Rattle.mrt.specs.Reader.{shown_of};
@@ -20,9 +20,8 @@ ghost use Rattle.bgp_judge.specs.Plain.{
 use crate::member::{PlainMember, copy_of, link_for};
 use crate::opening::openings;
 use crate::unshown::{Unshown, pay};
-use bgp_machine::{Head, State, Step, silent_steps};
+use bgp_machine::{Changes, Head, State, Step, silent_steps};
 use bgp_open::Config;
-use bgp_update::Changes;
 use mrt::Record;
 use std::alloc::{AllocError, Allocator};
 

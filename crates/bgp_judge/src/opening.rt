@@ -15,11 +15,10 @@ ghost use Rattle.bgp_judge.specs.Unshown.{PaysNothing};
 use crate::unshown::{Unshown, pay};
 use arrayvec::ArrayVec;
 use bgp_machine::{
-    Head, HiddenRow, MOST_STEPS, Step, hidden_step, hidden_steps, list_message_steps,
+    Changes, Head, HiddenRow, MOST_STEPS, Step, hidden_step, hidden_steps, list_message_steps,
 };
 use bgp_open::Config;
 use bgp_prefix::Seconds;
-use bgp_update::Changes;
 use mrt::Record;
 use std::alloc::{AllocError, Allocator, Global};
 

@@ -31,3 +31,9 @@ elapsed {a = a} {b = b} {c = c} {d = d} law first second n is plus written unit 
     (ap (λ (t : List ℕ). escaped (codes "+") ++ t) (sym (flat_map-append escape_octet (decimal (second - first)) (codes " s")))
     ∙ sym (flat_map-append escape_octet (codes "+") (decimal (second - first) ++ codes " s")))
     (and_then law plus (and_then law number unit))
+
+-- those of two texts
+pub in_words : {W : Type 0} {sink : sinks.Ghosts W} {old new : Lines W sink} (words more : List ℕ)
+    → Writes old new (escaped words ++ escaped more) → Writes old new (escaped (words ++ more))
+in_words {old = old} {new = new} words more writes =
+    subst (λ (t : List ℕ). Writes old new t) (sym (flat_map-append escape_octet words more)) writes

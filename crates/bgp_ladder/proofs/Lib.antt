@@ -1,2 +1,6 @@
 mod Ends
+mod InRuns
+mod Plain
+mod Words
 mod OneRow
+mod NotPrinted

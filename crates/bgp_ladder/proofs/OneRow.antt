@@ -1,7 +1,8 @@
 -- One row more.
-use Rattle.std.proofs.Common.{◌≡◌, ◌∙◌, ◌++◌, ◌+◌, ◌<◌, ℕ, List, [], ◌∷◌, Option, None, Some, append-nil, append_assoc, arith, get_or, length, length-take-le, refl, sym, ap, subst, take}
+use Rattle.std.proofs.Common.{◌≡◌, ◌∙◌, ◌++◌, ◌+◌, ◌<◌, ℕ, List, [], ◌∷◌, Option, None, Some, append-nil, append_assoc, arith, drop, get_or, if◌then◌else◌, length, length-take-le, refl, reverse, sym, ap, subst, take}
 use Rattle.std.proofs.lemmas.List.{take_more}
 use Rattle.std.specs.List.{last_or}
+use Rattle.std.specs.Prelude.{Bool, true, false, nat_lt}
 use Rattle.mrt.specs.Reader.{shown_of}
 use Rattle.mrt.specs.declared.sink.Sink as sinks
 use Rattle.bgp_text.specs.Lines.{Writes}
@@ -9,13 +10,16 @@ use Rattle.bgp_text.specs.declared.lines.Lines.{Lines}
 use Rattle.bgp_text.proofs.Pieces.{Joins, and_then}
 use Rattle.bgp_html.specs.Pieces.{Piece, html_of}
 use Rattle.bgp_ladder.proofs.Ends.{together}
+use Rattle.bgp_ladder.proofs.InRuns.{is_behind, is_whole, rest_here}
 use Rattle.bgp_lines.specs.Form.{Before, before_behind, nothing_before}
 use Rattle.bgp_recording.specs.declared.entry.Entry.{Entry}
 use Rattle.bgp_values.specs.Opens.{AreOpens}
 use Rattle.bgp_values.specs.declared.opens.Opens.{Opens}
-use Rattle.bgp_ladder.specs.Deed.{IsDeedBy}
-use Rattle.bgp_ladder.specs.Ladder.{AreRows, AreRowsBehind, IsRow, PutsRows, before_in, row_pieces}
+use Rattle.bgp_ladder.specs.Ladder.{AreRowsBefore, AreRowsBetween, IsRow, IsRowOf, PutsRowsBefore, before_in, greatest_in, part_in}
+use Rattle.bgp_ladder.specs.Runs.{IsRun, part_of, run_before, run_behind}
 use Rattle.bgp_ladder.specs.declared.rows.Ladder.{Ladder}
+use Rattle.bgp_ladder.specs.declared.runs.Part.{Part}
+use Rattle.bgp_ladder.specs.declared.runs.Run.{Run}
 
 last_of : (o : Option Entry) (xs : List Entry) (x : Entry) → last_or o (xs ++ x ∷ []) ≡ Some x
 last_of o [] x = refl
@@ -25,57 +29,105 @@ before_of : (b : Before) (xs : List Entry) (x : Entry) → before_in b (xs ++ x 
 before_of b [] x = refl
 before_of b (y ∷ ys) x = before_of (before_behind (shown_of y.record) b) ys x
 
+greatest_by : (x : Bool) (a b : ℕ) (xs : List Entry) (e : Entry) → ((n : ℕ) → greatest_in n (xs ++ e ∷ []) ≡ greatest_in (greatest_in n xs) (e ∷ []))
+    → (if x then greatest_in a (xs ++ e ∷ []) else greatest_in b (xs ++ e ∷ [])) ≡ greatest_in (if x then greatest_in a xs else greatest_in b xs) (e ∷ [])
+greatest_by true a b xs e rest = rest a
+greatest_by false a b xs e rest = rest b
+
+greatest_of : (xs : List Entry) (e : Entry) (n : ℕ) → greatest_in n (xs ++ e ∷ []) ≡ greatest_in (greatest_in n xs) (e ∷ [])
+greatest_of [] e n = refl
+greatest_of (y ∷ ys) e n = greatest_by (nat_lt n y.packet) y.packet n ys e (greatest_of ys e)
+
 module _ (ladder : Ladder) where
-  one_row : (earlier xs : List Entry) (x : Entry) (pieces row : List Piece) → AreRowsBehind ladder earlier xs pieces
-      → IsRow ladder (earlier ++ xs) x row → AreRowsBehind ladder earlier (xs ++ x ∷ []) (pieces ++ row)
-  one_row earlier [] x pieces row are is = (
+  one_row : (earlier xs later : List Entry) (x : Entry) (pieces row : List Piece) → AreRowsBetween ladder earlier xs (x ∷ later) pieces
+      → IsRow ladder (earlier ++ xs) x later row → AreRowsBetween ladder earlier (xs ++ x ∷ []) later (pieces ++ row)
+  one_row earlier [] later x pieces row are is = (
     row,
     [],
-    subst (λ (es : List Entry). IsRow ladder es x row) (append-nil earlier) is,
+    subst (λ (es : List Entry). IsRow ladder es x later row) (append-nil earlier) is,
     refl,
     ap (λ (ps : List Piece). ps ++ row) are ∙ sym (append-nil row),
   )
-  one_row earlier (y ∷ ys) x pieces row (first, rest, its, later, whole) is = (
+  one_row earlier (y ∷ ys) later x pieces row (first, rest, its, more, whole) is = (
     first,
     rest ++ row,
-    its,
-    one_row (earlier ++ y ∷ []) ys x rest row later (subst (λ (es : List Entry). IsRow ladder es x row) (sym (append_assoc earlier (y ∷ []) ys)) is),
+    subst (λ (es : List Entry). IsRow ladder earlier y es first) (sym (append_assoc ys (x ∷ []) later)) its,
+    one_row (earlier ++ y ∷ []) ys later x rest row more (subst (λ (es : List Entry). IsRow ladder es x later row) (sym (append_assoc earlier (y ∷ []) ys)) is),
     ap (λ (ps : List Piece). ps ++ row) whole ∙ append_assoc first rest row,
   )
 
-  -- of the entries so far and the next
-  next_row : (entries : List Entry) (i : ℕ) (d : Entry) (pieces : List Piece) (previous : Option Entry) (opens : Opens) (text : List ℕ) → i < length entries
-      → AreRows ladder (take i entries) pieces → previous ≡ last_or None (take i entries)
-      → AreOpens (before_in nothing_before (take i entries)).received (before_in nothing_before (take i entries)).sent opens
-      → IsDeedBy ladder.framings opens (shown_of (get_or entries i d).record) text
-      → AreRows ladder (take (i + 1) entries) (pieces ++ row_pieces ladder previous i (get_or entries i d) text)
-  next_row entries i d pieces previous opens text within are last known deed =
-      let row = row_pieces ladder previous i (get_or entries i d) text in
+-- what is known before the entry with this number
+pub record Known (entries : List Entry) (i : ℕ) (previous : Option Entry) (greatest : ℕ) (opens : Opens) : Type 0 where
+  pub last : previous ≡ last_or None (take i entries)
+  pub most : greatest ≡ greatest_in 0 (take i entries)
+  pub opened : AreOpens (before_in nothing_before (take i entries)).received (before_in nothing_before (take i entries)).sent opens
+
+module _ (ladder : Ladder) (entries : List Entry) (i : ℕ) (d : Entry) (within : i < length entries) where
+  abbrev it : Entry
+  it = get_or entries i d
+
+  -- its part
+  pub its_part : (run : Run) (part : Part) → IsRun ladder.impossible (reverse (take (i + 1) entries)) (drop (i + 1) entries) run
+      → ((before : ℕ) → run.length ≡ before + 1 + run.behind → part ≡ part_of before run.behind)
+      → part ≡ part_in ladder.impossible (take i entries) it (drop (i + 1) entries)
+  its_part run part is parted =
       let count : i ≡ length (take i entries) = sym (length-take-le i entries (omega (arith, within))) in
-      let same : row ≡ row_pieces ladder (last_or None (take i entries)) (length (take i entries)) (get_or entries i d) text =
-      ap (λ (o : Option Entry). row_pieces ladder o i (get_or entries i d) text) last
-      ∙ ap (λ (n : ℕ). row_pieces ladder (last_or None (take i entries)) n (get_or entries i d) text) count in
-      subst (λ (es : List Entry). AreRows ladder es (pieces ++ row)) (sym (take_more entries i d within))
-      (one_row [] (take i entries) (get_or entries i d) pieces row are (text, (opens, known, deed), same))
+      parted _ (is_whole ladder.impossible entries i d within run is)
+      ∙ ap (λ (n : ℕ). part_of (run_before ladder.impossible (shown_of it.record) (reverse (take i entries))) n)
+      (is_behind ladder.impossible entries i d within run is
+      ∙ ap (λ (n : ℕ). run_behind ladder.impossible n (shown_of it.record) (drop (i + 1) entries)) count)
 
-  -- and they were put
-  pub next_rows : {W : Type 0} {sink : sinks.Ghosts W} {a b c : Lines W sink} → Joins sink → (entries : List Entry) (i : ℕ) (d : Entry) (previous : Option Entry) (opens : Opens) (text shown : List ℕ)
-      → i < length entries → PutsRows ladder (take i entries) a b → previous ≡ last_or None (take i entries)
-      → AreOpens (before_in nothing_before (take i entries)).received (before_in nothing_before (take i entries)).sent opens
-      → IsDeedBy ladder.framings opens (shown_of (get_or entries i d).record) text → shown ≡ text
-      → Writes b c (html_of (row_pieces ladder previous i (get_or entries i d) shown)) → PutsRows ladder (take (i + 1) entries) a c
-  next_rows {W} {sink} {a} {b} {c} law entries i d previous opens text shown within puts last known deed same put =
-      let row = row_pieces ladder previous i (get_or entries i d) text in
-      let put_it : Writes b c (html_of row) = subst (λ (t : List ℕ). Writes b c (html_of (row_pieces ladder previous i (get_or entries i d) t))) same put in
-      (puts.0 ++ row, next_row entries i d puts.0 previous opens text within puts.1 last known deed, together puts.0 row (and_then law puts.2 put_it))
+  module _ (previous : Option Entry) (greatest : ℕ) (opens : Opens) (part : Part) (row : List Piece) where
+    next_row : Known entries i previous greatest opens → part ≡ part_in ladder.impossible (take i entries) it (drop (i + 1) entries)
+        → IsRowOf ladder opens greatest previous i it part row → IsRow ladder (take i entries) it (drop (i + 1) entries) row
+    next_row known is shows =
+        let count : i ≡ length (take i entries) = sym (length-take-le i entries (omega (arith, within))) in (
+          opens,
+          known.opened,
+          subst (λ (p : Part). IsRowOf ladder opens (greatest_in 0 (take i entries)) (last_or None (take i entries)) (length (take i entries)) it p row) is
+              (subst (λ (n : ℕ). IsRowOf ladder opens (greatest_in 0 (take i entries)) (last_or None (take i entries)) n it part row) count
+              (subst (λ (o : Option Entry). IsRowOf ladder opens (greatest_in 0 (take i entries)) o i it part row) known.last
+              (subst (λ (g : ℕ). IsRowOf ladder opens g previous i it part row) known.most shows))),
+        )
 
--- the last of them
-pub next_last : (entries : List Entry) (i : ℕ) (d : Entry) → i < length entries → Some (get_or entries i d) ≡ last_or None (take (i + 1) entries)
-next_last entries i d within =
-    sym (last_of None (take i entries) (get_or entries i d)) ∙ ap (λ (es : List Entry). last_or None es) (sym (take_more entries i d within))
+    -- and it was put
+    pub next_rows : {W : Type 0} {sink : sinks.Ghosts W} {a b c : Lines W sink} → Joins sink → Known entries i previous greatest opens
+        → part ≡ part_in ladder.impossible (take i entries) it (drop (i + 1) entries)
+        → PutsRowsBefore ladder (take i entries) (drop i entries) a b → IsRowOf ladder opens greatest previous i it part row
+        → Writes b c (html_of row) → PutsRowsBefore ladder (take (i + 1) entries) (drop (i + 1) entries) a c
+    next_rows {W} {sink} {a} {b} {c} law known is puts shows put =
+        let are : AreRowsBefore ladder (take i entries) (it ∷ drop (i + 1) entries) puts.0 =
+        subst (λ (es : List Entry). AreRowsBefore ladder (take i entries) es puts.0) (rest_here entries i d within) puts.1 in (
+          puts.0 ++ row,
+          subst (λ (es : List Entry). AreRowsBefore ladder es (drop (i + 1) entries) (puts.0 ++ row)) (sym (take_more entries i d within))
+              (one_row ladder [] (take i entries) (drop (i + 1) entries) it puts.0 row are (next_row known is shows)),
+          together puts.0 row (and_then law puts.2 put),
+        )
 
--- what came before the one behind them
-pub next_before : (entries : List Entry) (i : ℕ) (d : Entry) → i < length entries
-    → before_behind (shown_of (get_or entries i d).record) (before_in nothing_before (take i entries)) ≡ before_in nothing_before (take (i + 1) entries)
-next_before entries i d within =
-    sym (before_of nothing_before (take i entries) (get_or entries i d)) ∙ ap (λ (es : List Entry). before_in nothing_before es) (sym (take_more entries i d within))
+-- ---- what is known before the one behind it
+
+module _ (entries : List Entry) (i : ℕ) (d : Entry) (within : i < length entries) where
+  next_last : (previous : Option Entry) → previous ≡ Some (get_or entries i d) → previous ≡ last_or None (take (i + 1) entries)
+  next_last previous is =
+      is ∙ sym (last_of None (take i entries) (get_or entries i d)) ∙ ap (λ (es : List Entry). last_or None es) (sym (take_more entries i d within))
+
+  next_most : (greatest more : ℕ) → greatest ≡ greatest_in 0 (take i entries) → more ≡ greatest_in greatest (get_or entries i d ∷ [])
+      → more ≡ greatest_in 0 (take (i + 1) entries)
+  next_most greatest more was is =
+      is ∙ ap (λ (g : ℕ). greatest_in g (get_or entries i d ∷ [])) was ∙ sym (greatest_of (take i entries) (get_or entries i d) 0)
+      ∙ ap (λ (es : List Entry). greatest_in 0 es) (sym (take_more entries i d within))
+
+  pub next_before : before_behind (shown_of (get_or entries i d).record) (before_in nothing_before (take i entries)) ≡ before_in nothing_before (take (i + 1) entries)
+  next_before =
+      sym (before_of nothing_before (take i entries) (get_or entries i d)) ∙ ap (λ (es : List Entry). before_in nothing_before es) (sym (take_more entries i d within))
+
+  pub next_known : (previous previous' : Option Entry) (greatest greatest' : ℕ) (opens opens' : Opens) → Known entries i previous greatest opens
+      → previous' ≡ Some (get_or entries i d) → greatest' ≡ greatest_in greatest (get_or entries i d ∷ [])
+      → ((before : Before) → AreOpens before.received before.sent opens
+      → AreOpens (before_behind (shown_of (get_or entries i d).record) before).received (before_behind (shown_of (get_or entries i d).record) before).sent opens')
+      → Known entries (i + 1) previous' greatest' opens'
+  next_known previous previous' greatest greatest' opens opens' known last most opened = record {
+    last = next_last previous' last;
+    most = next_most greatest greatest' known.most most;
+    opened = subst (λ (b : Before). AreOpens b.received b.sent opens') next_before (opened _ known.opened);
+  }

@@ -5,11 +5,11 @@ use Rattle.bgp_wire.specs.declared.header.Limit.{Limit}
 use Rattle.mrt.specs.Rules.{HasOtherLength}
 use Rattle.bgp_text.specs.Text.{hex_text}
 use Rattle.bgp_names.specs.States.{state_name}
-use Rattle.bgp_values.specs.Opens.{AreOpens, reading_by}
+use Rattle.bgp_values.specs.Opens.{reading_by}
 use Rattle.bgp_values.specs.declared.opens.Direction.TheVariants.{Received, Sent}
 use Rattle.bgp_values.specs.declared.opens.Opens.{Opens}
 use Rattle.bgp_values.specs.declared.opens.Reading.{Reading}
-use Rattle.bgp_lines.specs.Form.{Before, IsNamedMessage}
+use Rattle.bgp_lines.specs.Form.{IsNamedMessage}
 use Rattle.bgp_recording.specs.declared.framing.Framings.{Framings}
 
 -- octets are one whole message, or begin with a faulty header
@@ -35,8 +35,3 @@ IsDeedBy framings opens (In second octets) text =
 IsDeedBy framings opens (Out second octets) text =
     IsMessageText (reading_by false Sent opens) framings.sent.limit octets text
 IsDeedBy framings opens (Changed second old new) text = text ≡ change_text old new
-
--- and behind these messages
-abbrev pub IsDeed : Framings → Before → ShownRecord → List ℕ → Type 0
-IsDeed framings before shown text =
-    (opens : Opens) × AreOpens before.received before.sent opens × IsDeedBy framings opens shown text

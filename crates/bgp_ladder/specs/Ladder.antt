@@ -1,6 +1,6 @@
 -- A ladder: a row a record.
-use Rattle.std.specs.Prelude.{◌≡◌, ◌++◌, ◌+◌, ◌-◌, ◌==◌, ℕ, List, [], ◌∷◌, Option, None, Some}
-use Rattle.std.specs.Prelude.{codes, if◌then◌else◌, length, nat_lt}
+use Rattle.std.specs.Prelude.{◌≡◌, ◌<◌, ◌++◌, ◌+◌, ◌-◌, ◌==◌, ℕ, List, [], ◌∷◌, Option, None, Some}
+use Rattle.std.specs.Prelude.{codes, if◌then◌else◌, length, nat_lt, reverse}
 use Rattle.std.specs.List.{last_or}
 use Rattle.std.specs.Fmt.{decimal}
 use Rattle.bgp_prefix.specs.Shown.{ShownRecord, Received as In, Sent as Out, Changed}
@@ -8,7 +8,7 @@ use Rattle.mrt.specs.Reader.{shown_of}
 use Rattle.mrt.specs.declared.sink.Sink as sinks
 use Rattle.bgp_text.specs.Lines.{Writes}
 use Rattle.bgp_text.specs.declared.lines.Lines.{Lines}
-use Rattle.bgp_html.specs.Pieces.{Markup, Piece, Words, html_of}
+use Rattle.bgp_html.specs.Pieces.{Markup, Piece, Words, html_of, printed_of}
 use Rattle.bgp_html.specs.declared.tag.Column.{Column}
 use Rattle.bgp_html.specs.declared.tag.Mark.{Mark}
 use Rattle.bgp_html.specs.declared.tag.Mark.TheVariants as marks
@@ -17,8 +17,13 @@ use Rattle.bgp_html.specs.declared.tag.What.{What}
 use Rattle.bgp_html.specs.declared.tag.What.TheVariants as whats
 use Rattle.bgp_lines.specs.Form.{Before, before_behind, nothing_before}
 use Rattle.bgp_recording.specs.declared.entry.Entry.{Entry}
-use Rattle.bgp_ladder.specs.Deed.{IsDeed}
+use Rattle.bgp_values.specs.Opens.{AreOpens}
+use Rattle.bgp_values.specs.declared.opens.Opens.{Opens}
+use Rattle.bgp_ladder.specs.Deed.{IsDeedBy}
+use Rattle.bgp_ladder.specs.Runs.{part_of, run_before, run_behind, type_of}
 use Rattle.bgp_ladder.specs.declared.rows.Ladder.{Ladder}
+use Rattle.bgp_ladder.specs.declared.runs.Part.{Part}
+use Rattle.bgp_ladder.specs.declared.runs.Part.TheVariants as parts
 
 -- ---- the head
 
@@ -42,17 +47,27 @@ head_pieces column caption left right =
 abbrev pub elapsed_words : ℕ → ℕ → List ℕ
 elapsed_words first second = codes "+" ++ (decimal (second - first) ++ codes " s")
 
--- its time, behind an entry or as the first: empty if it has the second of that; a packet that is
--- before that one's is said to be
+-- its time, behind an entry or as the first: empty if it has the second of that
 abbrev pub time_behind : ℕ → Entry → Entry → List ℕ
 time_behind first previous entry =
-    if nat_lt entry.packet previous.packet then codes "came before" else
-    if entry.second == previous.second then [] else
-    elapsed_words first entry.second
+    if entry.second == previous.second then [] else elapsed_words first entry.second
 
-abbrev pub time_words : ℕ → Option Entry → Entry → List ℕ
-time_words first None entry = elapsed_words first entry.second
-time_words first (Some previous) entry = time_behind first previous entry
+abbrev pub time_after : ℕ → Option Entry → Entry → List ℕ
+time_after first None entry = elapsed_words first entry.second
+time_after first (Some previous) entry = time_behind first previous entry
+
+-- the greatest packet of these entries and of this one
+abbrev pub greatest_in : ℕ → List Entry → ℕ
+greatest_in packet [] = packet
+greatest_in packet (entry ∷ entries) =
+    if nat_lt packet entry.packet then greatest_in entry.packet entries
+    else greatest_in packet entries
+
+-- if its packet came before the greatest one so far, its time says so
+abbrev pub time_words : ℕ → ℕ → Option Entry → Entry → List ℕ
+time_words first greatest previous entry =
+    if nat_lt entry.packet greatest then elapsed_words first entry.second ++ codes ", came before"
+    else time_after first previous entry
 
 abbrev pub what_of : Column → ShownRecord → What
 what_of column (In second octets) = whats.Received column
@@ -86,16 +101,51 @@ number_pieces packet number =
     Markup tags.Cell ∷ Words (decimal packet) ∷ Markup tags.Cell ∷ Words (decimal number) ∷ []
 
 -- what stands before that: its number is counted from 0 on, and shown from 1 on
-abbrev pub front_pieces : Ladder → Option Entry → ℕ → Entry → List Piece
-front_pieces ladder previous number entry =
+abbrev pub front_pieces : Ladder → ℕ → Option Entry → ℕ → Entry → List Piece
+front_pieces ladder greatest previous number entry =
     Markup (tags.Row (what_of ladder.column (shown_of entry.record))
     (mark_at ladder.impossible number))
-    ∷ Words (time_words ladder.first previous entry) ∷ number_pieces entry.packet (number + 1)
+    ∷ Words (time_words ladder.first greatest previous entry)
+    ∷ number_pieces entry.packet (number + 1)
 
-abbrev pub row_pieces : Ladder → Option Entry → ℕ → Entry → List ℕ → List Piece
-row_pieces ladder previous number entry text =
-    front_pieces ladder previous number entry
+abbrev pub row_pieces : Ladder → ℕ → Option Entry → ℕ → Entry → List ℕ → List Piece
+row_pieces ladder greatest previous number entry text =
+    front_pieces ladder greatest previous number entry
     ++ deed_pieces ladder.column (shown_of entry.record) text
+
+-- ---- a row that sums up some
+
+abbrev pub type_words : ℕ → List ℕ
+type_words number =
+    if number == 1 then codes "OPEN" else
+    if number == 2 then codes "UPDATE" else
+    if number == 3 then codes "NOTIFICATION" else
+    if number == 4 then codes "KEEPALIVE" else
+    if number == 5 then codes "ROUTE-REFRESH" else
+    codes "message"
+
+abbrev pub kind_words : ℕ → List ℕ → List Piece
+kind_words number way = Words (type_words number) ∷ Words way ∷ []
+
+abbrev pub kind_pieces : ShownRecord → List Piece
+kind_pieces (In second octets) = kind_words (type_of octets) (codes " received")
+kind_pieces (Out second octets) = kind_words (type_of octets) (codes " sent")
+kind_pieces (Changed second old new) = []
+
+-- so many records more, from one with this number on
+abbrev pub count_pieces : ℕ → ShownRecord → List Piece
+count_pieces count shown = Words (decimal count) ∷ Words (codes " more ") ∷ kind_pieces shown
+
+abbrev pub number_words : ℕ → ℕ → List Piece
+number_words first last =
+    Words (codes ", records ") ∷ Words (decimal first) ∷ Words (codes " to ")
+    ∷ Words (decimal last) ∷ Markup tags.MessageEnd ∷ []
+
+abbrev pub sum_pieces : Ladder → ℕ → ℕ → ShownRecord → List Piece
+sum_pieces ladder number count shown =
+    Markup (tags.Row whats.Run (mark_at ladder.impossible number)) ∷ Markup tags.Cell
+    ∷ Markup tags.Cell ∷ Markup tags.Message
+    ∷ (count_pieces count shown ++ number_words (number + 1) (number + count))
 
 -- ---- the rows
 
@@ -105,29 +155,81 @@ before_in before [] = before
 before_in before (entry ∷ entries) =
     before_in (before_behind (shown_of entry.record) before) entries
 
--- the row of an entry behind these
-abbrev pub IsRow : Ladder → List Entry → Entry → List Piece → Type 0
-IsRow ladder earlier entry row =
-    (text : List ℕ)
-    × IsDeed ladder.framings (before_in nothing_before earlier) (shown_of entry.record) text
-    × (row ≡ row_pieces ladder (last_or None earlier) (length earlier) entry text)
+-- What stands for an entry, by how it does in the ladder, where these were the last OPENs: the
+-- entry before it, the greatest packet so far and its number are given.
+module _ (ladder : Ladder) (opens : Opens) (greatest : ℕ) (previous : Option Entry) (number : ℕ)
+    (entry : Entry) where
+  -- a row of its own, behind that of another entry or of none
+  abbrev pub IsOwnRow : Option Entry → List Piece → Type 0
+  IsOwnRow shown row =
+      (text : List ℕ) × IsDeedBy ladder.framings opens (shown_of entry.record) text
+      × (row ≡ row_pieces ladder greatest shown number entry text)
 
--- the rows of entries behind these, one after another
-abbrev pub AreRowsBehind : Ladder → List Entry → List Entry → List Piece → Type 0
-AreRowsBehind ladder earlier [] pieces = pieces ≡ []
-AreRowsBehind ladder earlier (entry ∷ entries) pieces =
-    (row rest : List Piece) × IsRow ladder earlier entry row
-    × AreRowsBehind ladder (earlier ++ entry ∷ []) entries rest × (pieces ≡ row ++ rest)
+  abbrev pub IsRowOf : Part → List Piece → Type 0
+  IsRowOf parts.Own row = IsOwnRow previous row
+  IsRowOf parts.Last row = IsOwnRow None row
+  IsRowOf (parts.Sum count) row = row ≡ sum_pieces ladder number count (shown_of entry.record)
+  IsRowOf parts.Summed row = row ≡ []
 
-abbrev pub AreRows : Ladder → List Entry → List Piece → Type 0
-AreRows ladder entries pieces = AreRowsBehind ladder [] entries pieces
+-- the numbers of the entries that one sums up are no greater than a machine's
+abbrev pub LastWithin : ℕ → ℕ → Part → Type 0
+LastWithin most number parts.Own = Unit {0}
+LastWithin most number parts.Last = Unit {0}
+LastWithin most number (parts.Sum count) = number + count < most
+LastWithin most number parts.Summed = Unit {0}
+
+-- the part of an entry behind these and before those
+abbrev pub part_in : Option ℕ → List Entry → Entry → List Entry → Part
+part_in mark earlier entry later =
+    part_of (run_before mark (shown_of entry.record) (reverse earlier))
+    (run_behind mark (length earlier) (shown_of entry.record) later)
+
+-- what stands for it
+abbrev pub IsRow : Ladder → List Entry → Entry → List Entry → List Piece → Type 0
+IsRow ladder earlier entry later row =
+    (opens : Opens)
+    × AreOpens (before_in nothing_before earlier).received (before_in nothing_before earlier).sent
+    opens
+    × IsRowOf ladder opens (greatest_in 0 earlier) (last_or None earlier) (length earlier) entry
+    (part_in ladder.impossible earlier entry later) row
+
+-- the rows of entries behind these and before those, one after another
+abbrev pub AreRowsBetween : Ladder → List Entry → List Entry → List Entry → List Piece → Type 0
+AreRowsBetween ladder earlier [] later pieces = pieces ≡ []
+AreRowsBetween ladder earlier (entry ∷ entries) later pieces =
+    (row rest : List Piece) × IsRow ladder earlier entry (entries ++ later) row
+    × AreRowsBetween ladder (earlier ++ entry ∷ []) entries later rest × (pieces ≡ row ++ rest)
+
+-- those of the first entries, with others behind them
+abbrev pub AreRowsBefore : Ladder → List Entry → List Entry → List Piece → Type 0
+AreRowsBefore ladder entries later pieces = AreRowsBetween ladder [] entries later pieces
 
 -- they were put
+abbrev pub PutsRowsBefore : {W : Type 0} {sink : sinks.Ghosts W} → Ladder → List Entry
+    → List Entry → Lines W sink → Lines W sink → Type 0
+PutsRowsBefore ladder entries later old new =
+    (pieces : List Piece) × AreRowsBefore ladder entries later pieces
+    × Writes old new (html_of pieces)
+
+-- those of all of them
+abbrev pub AreRows : Ladder → List Entry → List Piece → Type 0
+AreRows ladder entries pieces = AreRowsBefore ladder entries [] pieces
+
 abbrev pub PutsRows : {W : Type 0} {sink : sinks.Ghosts W} → Ladder → List Entry → Lines W sink
     → Lines W sink → Type 0
-PutsRows ladder entries old new =
-    (pieces : List Piece) × AreRows ladder entries pieces × Writes old new (html_of pieces)
+PutsRows ladder entries old new = PutsRowsBefore ladder entries [] old new
 
--- the first of these, as many as there are
-abbrev pub IsFrontOf : List Entry → List Entry → Type 0
-IsFrontOf front entries = (behind : List Entry) × (entries ≡ front ++ behind)
+-- those of the first of them were put, as many as there are
+abbrev pub PutsSome : {W : Type 0} {sink : sinks.Ghosts W} → Ladder → List Entry → Lines W sink
+    → Lines W sink → Type 0
+PutsSome ladder entries old new =
+    (front behind : List Entry) × (entries ≡ front ++ behind)
+    × PutsRowsBefore ladder front behind old new
+
+-- ---- what holds of rows
+
+-- none of them is a line that is printed as text
+abbrev pub RowsAreNotPrinted : Type 0
+RowsAreNotPrinted =
+    (ladder : Ladder) (entries later : List Entry) (pieces : List Piece)
+    → AreRowsBefore ladder entries later pieces → printed_of pieces ≡ []

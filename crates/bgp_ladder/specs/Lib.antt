@@ -1,3 +1,5 @@
 -- In reading order.
 pub mod Deed
+pub mod Runs
+pub mod Batch
 pub mod Ladder

@@ -4,11 +4,13 @@ ghost use Rattle.std.specs.Prelude.{◌≡◌, ◌↔◌, IfOk, IsOk, IsTrue, Li
 ghost use Rattle.mrt.specs.Reader.{shown_of};
 ghost use Rattle.mrt.specs.MemSink.{sink_state};
 ghost use Rattle.bgp_text.specs.Lines.{Writes};
+ghost use Rattle.bgp_ladder.specs.Batch.{AreDeeds};
 ghost use Rattle.bgp_ladder.specs.Deed.{IsMessageText, IsDeedBy, IsWhole, change_text, octets_text};
 
+use crate::rows::take_shown;
 use bgp_lines::put_named_message;
 use bgp_names::put_state_name;
-use bgp_recording::Framings;
+use bgp_recording::{Entry, Framings};
 use bgp_text::Lines;
 use bgp_values::{Direction, Opens, Reading};
 use bgp_wire::{HEADER_LEN, Limit};
@@ -92,18 +94,38 @@ fn taken<A: Allocator>(
     }
 }
 
-/// Returns what a record shows, where these were the last OPENs and both directions are framed so.
-pub(crate) fn deed_of<A: Allocator>(
+/// Puts what each of these shows, with an octet 0 behind it, where these were the last OPENs.
+fn put_deeds<W: Sink>(
+    lines: &mut Lines<'_, W>,
+    opens: &Opens,
+    framings: Framings,
+    entries: &[Entry<'_>],
+)
+    ensures { (octets : List ℕ) × AreDeeds framings opens.now entries.now octets
+        × Writes lines.old lines.new octets }
+{
+    let mut last = *opens;
+    for place in 0..entries.len() {
+        let entry = &entries[place];
+        put_deed_text(lines, &last, framings, &entry.record);
+        lines.put(&[0]);
+        take_shown(&mut last, &entry.record);
+    }
+}
+
+/// Returns what each of these shows, with an octet 0 behind it, where these were the last OPENs. To
+/// make `Lines` clears a buffer that is far greater than what one record shows: one serves them all.
+pub(crate) fn deeds_of<A: Allocator>(
     alloc: A,
     opens: &Opens,
     framings: Framings,
-    shown: &Record<'_>,
+    entries: &[Entry<'_>],
 ) -> Result<Vec<u8, A>, AllocError>
-    ensures { IfOk result (λ text. IsDeedBy framings opens.now (shown_of shown.now) text.items) }
+    ensures { IfOk result (λ octets. AreDeeds framings opens.now entries.now octets.items) }
 {
     let mut sink = MemSink::new(alloc);
     let mut lines = Lines::new(&mut sink);
-    put_deed_text(&mut lines, opens, framings, shown);
+    put_deeds(&mut lines, opens, framings, entries);
     let handed = lines.hand_over();
     // No effect: it ends the loan of the sink.
     lines.into_sink();

@@ -9,10 +9,15 @@
 //! ```
 #![tactic(auto)]
 
+mod batch;
 mod cells;
 mod deed;
 mod head;
+mod laws;
 mod rows;
+mod runs;
+mod sums;
 
 pub use head::put_head;
+pub use laws::rows_are_not_printed;
 pub use rows::{Ladder, put_rows};

@@ -1,18 +1,23 @@
 //! The rows of records.
 
-ghost use Rattle.std.specs.Prelude.{◌≡◌, ◌<◌, List, OnErr, OnOk};
+ghost use Rattle.std.specs.Prelude.{◌≡◌, ◌<◌, ◌∷◌, [], List, Some, OnErr, OnOk};
 ghost use Rattle.mrt.specs.Reader.{shown_of};
 ghost use Rattle.bgp_text.specs.Lines.{Writes};
-ghost use Rattle.bgp_html.specs.Pieces.{html_of};
-ghost use Rattle.bgp_recording.specs.declared.entry.Entry.{Entry as Entered};
+ghost use Rattle.bgp_html.specs.Pieces.{Piece, html_of};
 ghost use Rattle.bgp_values.specs.Opens.{AreOpens};
-ghost use Rattle.bgp_lines.specs.Form.{Before, before_behind};
-ghost use Rattle.bgp_ladder.specs.Ladder.{IsFrontOf, PutsRows, change_pieces, deed_pieces};
-ghost use Rattle.bgp_ladder.specs.Ladder.{front_pieces, mark_at, message_pieces, row_pieces, what_of};
+ghost use Rattle.bgp_values.specs.declared.opens.Opens.{Opens};
+ghost use Rattle.bgp_lines.specs.Form.{Before as Messages, before_behind};
+ghost use Rattle.bgp_ladder.specs.Batch.{IsShownBy};
+ghost use Rattle.bgp_ladder.specs.Ladder.{IsRowOf, LastWithin, PutsRows, PutsSome};
+ghost use Rattle.bgp_ladder.specs.Ladder.{change_pieces, deed_pieces, front_pieces, greatest_in};
+ghost use Rattle.bgp_ladder.specs.Ladder.{mark_at};
+ghost use Rattle.bgp_ladder.specs.Ladder.{message_pieces, row_pieces, what_of};
 
-use crate::cells::{put_numbers, put_time};
-use crate::deed::deed_of;
-use bgp_html::{Column, Mark, Tag, What, put_escaped, put_tag};
+use crate::batch::{Batch, filled};
+use crate::cells::{put_numbers, put_time, put_words};
+use crate::runs::{Part, Run, next_run, part_of};
+use crate::sums::put_sum;
+use bgp_html::{Column, Mark, Tag, What, put_tag};
 use bgp_prefix::Seconds;
 use bgp_recording::{Entry, Framings};
 use bgp_text::Lines;
@@ -33,6 +38,15 @@ pub struct Ladder {
     pub impossible: Option<usize>,
 }
 
+/// What is known of the entries before one.
+#[derive(Clone, Copy, Debug)]
+struct Before<'a> {
+    /// The last of them, if a row of its own is the last one.
+    previous: Option<Entry<'a>>,
+    /// The greatest packet of them.
+    greatest: u64,
+}
+
 /// Returns what the row of a record shows.
 fn what_of(column: Column, shown: &Record<'_>) -> What
     ensures { result ≡ what_of column (shown_of shown.now) }
@@ -45,7 +59,7 @@ fn what_of(column: Column, shown: &Record<'_>) -> What
 }
 
 /// Returns how the row of a record is marked, where a no stands at that one.
-fn mark_at(impossible: Option<usize>, number: usize) -> Mark
+pub(crate) fn mark_at(impossible: Option<usize>, number: usize) -> Mark
     ensures { result ≡ mark_at impossible number }
 {
     match impossible {
@@ -66,17 +80,17 @@ fn mark_at(impossible: Option<usize>, number: usize) -> Mark
 fn put_front<W: Sink>(
     lines: &mut Lines<'_, W>,
     ladder: &Ladder,
-    previous: Option<Entry<'_>>,
+    before: &Before<'_>,
     number: usize,
     entry: &Entry<'_>,
 )
     requires { number < u64.MAX }
-    ensures { Writes lines.old lines.new
-        (html_of (front_pieces ladder.now previous.entry number entry.now)) }
+    ensures { Writes lines.old lines.new (html_of
+        (front_pieces ladder.now before.now.greatest before.now.previous number entry.now)) }
 {
     let what = what_of(ladder.column, &entry.record);
     put_tag(lines, Tag::Row(what, mark_at(ladder.impossible, number)));
-    put_time(lines, ladder.first, previous, entry);
+    put_time(lines, ladder.first, before.greatest, before.previous, entry);
     put_numbers(lines, entry.packet, number as u64 + 1);
 }
 
@@ -85,7 +99,7 @@ fn put_message<W: Sink>(lines: &mut Lines<'_, W>, text: &[u8])
     ensures { Writes lines.old lines.new (html_of (message_pieces text.now)) }
 {
     put_tag(lines, Tag::Message);
-    put_escaped(lines, text);
+    put_words(lines, text);
     put_tag(lines, Tag::MessageEnd);
 }
 
@@ -94,7 +108,7 @@ fn put_change<W: Sink>(lines: &mut Lines<'_, W>, column: Column, text: &[u8])
     ensures { Writes lines.old lines.new (html_of (change_pieces column text.now)) }
 {
     put_tag(lines, Tag::Change(column));
-    put_escaped(lines, text);
+    put_words(lines, text);
     put_tag(lines, Tag::ChangeEnd(column));
 }
 
@@ -110,27 +124,57 @@ fn put_shown<W: Sink>(lines: &mut Lines<'_, W>, column: Column, shown: &Record<'
     }
 }
 
-/// Puts the row of an entry behind another or as the first, with its number, from 0 on, and what it
-/// shows.
+/// Puts the row of an entry behind these, with its number, from 0 on, and what it shows.
 fn put_row<W: Sink>(
     lines: &mut Lines<'_, W>,
     ladder: &Ladder,
-    previous: Option<Entry<'_>>,
+    before: &Before<'_>,
     number: usize,
     entry: &Entry<'_>,
     text: &[u8],
 )
     requires { number < u64.MAX }
-    ensures { Writes lines.old lines.new
-        (html_of (row_pieces ladder.now previous.entry number entry.now text.now)) }
+    ensures { Writes lines.old lines.new (html_of (row_pieces ladder.now before.now.greatest
+        before.now.previous number entry.now text.now)) }
 {
-    put_front(lines, ladder, previous, number, entry);
+    put_front(lines, ladder, before, number, entry);
     put_shown(lines, ladder.column, &entry.record, text);
 }
 
+/// Puts what stands for an entry behind these, by how it does, with what it shows.
+fn put_part<W: Sink>(
+    lines: &mut Lines<'_, W>,
+    ladder: &Ladder,
+    before: &Before<'_>,
+    number: usize,
+    entry: &Entry<'_>,
+    part: Part,
+    text: &[u8],
+)
+    requires first { number < u64.MAX }
+    requires last { LastWithin u64.MAX number part }
+    ensures { (opens : Opens)
+        → IsShownBy ladder.now.framings opens (shown_of entry.now.record) part text.now
+        → (row : List Piece) × IsRowOf ladder.now opens before.now.greatest before.now.previous
+        number entry.now part row × Writes lines.old lines.new (html_of row) }
+{
+    match part {
+        Part::Own => put_row(lines, ladder, before, number, entry, text),
+        Part::Last => {
+            let behind_sum = Before {
+                previous: None,
+                greatest: before.greatest,
+            };
+            put_row(lines, ladder, &behind_sum, number, entry, text);
+        }
+        Part::Sum(count) => put_sum(lines, ladder, number, count, &entry.record),
+        Part::Summed => {}
+    }
+}
+
 /// Takes what a record shows.
-fn take_shown(opens: &mut Opens, shown: &Record<'_>)
-    ensures { (before : Before) → AreOpens before.received before.sent opens.old
+pub(crate) fn take_shown(opens: &mut Opens, shown: &Record<'_>)
+    ensures { (before : Messages) → AreOpens before.received before.sent opens.old
         → AreOpens (before_behind (shown_of shown.now) before).received
         (before_behind (shown_of shown.now) before).sent opens.new }
 {
@@ -141,9 +185,26 @@ fn take_shown(opens: &mut Opens, shown: &Record<'_>)
     }
 }
 
-/// Puts the rows of these entries, one after another, each with its packet, its number from 1 on and
-/// what it shows: a message as `bgp decode --names` prints it, with what the OPENs before it settle.
-/// The record at which a no stands is marked, and those behind it are.
+/// Returns what is known before the next entry.
+fn behind<'a>(before: Before<'a>, entry: &Entry<'a>) -> Before<'a>
+    ensures previous { result.previous ≡ Some entry.now }
+    ensures greatest { result.greatest ≡ greatest_in before.entry.greatest (entry.now ∷ []) }
+{
+    Before {
+        previous: Some(*entry),
+        greatest: if before.greatest < entry.packet {
+            entry.packet
+        } else {
+            before.greatest
+        },
+    }
+}
+
+/// Puts the rows of these entries, one after another, each with its packet, its number from 1 on
+/// and what it shows: a message as `bgp decode --names` prints it, with what the OPENs before it
+/// settle. The record at which a no stands is marked, and those behind it are. If more than 40
+/// messages of one direction and type follow one another, and the no stands at none of them, one
+/// row sums up those between the first and the last.
 ///
 /// If memory is refused for a row, those before it are put, and nothing of it.
 pub fn put_rows<A: Allocator + Copy, W: Sink>(
@@ -153,17 +214,37 @@ pub fn put_rows<A: Allocator + Copy, W: Sink>(
     entries: &[Entry<'_>],
 ) -> Result<(), AllocError>
     ensures ok { OnOk result (PutsRows ladder.now entries.now lines.old lines.new) }
-    ensures err { OnErr result ((front : List Entered) × IsFrontOf front entries.now
-        × PutsRows ladder.now front lines.old lines.new) }
+    ensures err { OnErr result (PutsSome ladder.now entries.now lines.old lines.new) }
 {
     let mut opens = Opens::new();
-    let mut previous = None;
+    let mut before = Before {
+        previous: None,
+        greatest: 0,
+    };
+    let mut run = Run {
+        length: 0,
+        behind: 0,
+    };
+    let mut batch = Batch::none(alloc);
     for number in 0..entries.len() {
         let entry = &entries[number];
-        let text = deed_of(alloc, &opens, ladder.framings, &entry.record)?;
-        put_row(lines, ladder, previous, number, entry, text.as_slice());
+        run = next_run(ladder.impossible, entries, number, run);
+        let part = part_of(run);
+        let rest = entries.split_at(number).1;
+        batch = filled(alloc, batch, &opens, ladder.framings, rest, part)?;
+        let end = batch.end();
+        put_part(
+            lines,
+            ladder,
+            &before,
+            number,
+            entry,
+            part,
+            batch.words(end),
+        );
+        batch.pass(end);
         take_shown(&mut opens, &entry.record);
-        previous = Some(*entry);
+        before = behind(before, entry);
     }
     Ok(())
 }

@@ -4,8 +4,8 @@ use Rattle.std.proofs.lemmas.Bool.{and_parts, eqb-true}
 use Rattle.std.specs.List.{flat_map}
 use Rattle.byteorder.specs.Endian.{big_number}
 use Rattle.bgp_attr.specs.Field.{Attribute}
-use Rattle.bgp_update.specs.declared.destination.Destination.{Destination}
-use Rattle.bgp_update.specs.Parts.{UpdateParts}
+use Rattle.bgp_text.specs.Destination.{Destination}
+use Rattle.bgp_text.specs.Parts.{UpdateParts}
 use Rattle.bgp_names.specs.Families.{family_name}
 use Rattle.bgp_text.specs.Text.{destinations_text}
 use Rattle.bgp_values.specs.declared.opens.Reading.{Reading}

@@ -3,8 +3,8 @@ use Rattle.std.specs.Prelude.{◌++◌, ◌==◌, ◌&&◌, ℕ, Bool, List, [],
 use Rattle.std.specs.Prelude.{codes, if◌then◌else◌, length, map, slice_index}
 use Rattle.byteorder.specs.Endian.{big_number}
 use Rattle.bgp_attr.specs.Field.{Attribute}
-use Rattle.bgp_update.specs.declared.destination.Destination.{Destination}
-use Rattle.bgp_update.specs.Parts.{UpdateParts}
+use Rattle.bgp_text.specs.Destination.{Destination}
+use Rattle.bgp_text.specs.Parts.{UpdateParts}
 use Rattle.bgp_names.specs.Attributes.{attribute_word}
 use Rattle.bgp_names.specs.Families.{family_name}
 use Rattle.bgp_text.specs.Text.{destinations_text}

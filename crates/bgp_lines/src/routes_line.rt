@@ -10,8 +10,7 @@ use crate::attribute_line::put_octets;
 use bgp_names::put_family_name;
 use bgp_path::NextHop;
 use bgp_prefix::Family;
-use bgp_text::{Lines, put_destination, put_next_hop};
-use bgp_update::{Destination, Destinations};
+use bgp_text::{Destination, Destinations, Lines, put_destination, put_next_hop};
 use bgp_values::RoutesValue;
 use mrt::Sink;
 

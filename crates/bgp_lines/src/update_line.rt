@@ -2,7 +2,7 @@
 
 ghost use Rattle.std.specs.Prelude.{◌++◌, ◌≡◌, ◌∷◌, [], codes};
 ghost use Rattle.bgp_attr.specs.Field.{attribute_of};
-ghost use Rattle.bgp_update.specs.Parts.{parts_of};
+ghost use Rattle.bgp_text.specs.Parts.{parts_of};
 ghost use Rattle.bgp_names.specs.Families.{family_name};
 ghost use Rattle.bgp_text.specs.Lines.{Writes};
 ghost use Rattle.bgp_text.specs.Text.{destinations_text};
@@ -16,8 +16,7 @@ use crate::attribute_line::{
 use crate::routes_line::{put_listed, put_routes_or_octets};
 use bgp_attr::{Attr, Attrs};
 use bgp_names::{put_attribute_word, put_family_name};
-use bgp_text::Lines;
-use bgp_update::{Destination, Destinations, Parts};
+use bgp_text::{Destination, Destinations, Lines, Parts};
 use bgp_values::{AttributeValue, Reading, RoutesValue};
 use byteorder::{BigEndian, ByteOrder};
 use mrt::Sink;

@@ -7,7 +7,7 @@ use Rattle.mrt_sessions.specs.File.{Located}
 use Rattle.mrt_sessions.specs.declared.addresses.Addresses.{Addresses}
 use Rattle.bgp_prefix.specs.declared.session.Session.{Session}
 use Rattle.streams.specs.declared.connection.Opening.{Opening}
-use Rattle.bgp_why.specs.declared.endpoint.Endpoint.{Endpoint}
+use Rattle.bgp_ended.specs.DeclaredEndpoint.{Endpoint}
 use Rattle.bgp_import.specs.ListText.{other_side}
 use Rattle.bgp_import.specs.declared.refusal.Refusal.{Refusal}
 use Rattle.bgp_json_values.specs.Times.{time_members}

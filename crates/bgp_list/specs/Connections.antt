@@ -8,8 +8,8 @@ use Rattle.streams.specs.declared.connection.Opening.{Opening}
 use Rattle.streams.specs.declared.passed.Side.{Side}
 use Rattle.streams.specs.declared.passed.Side.TheVariants.{Local, Peer}
 use Rattle.bgp_clock.specs.When.{when_text}
-use Rattle.bgp_why.specs.Endpoint.{endpoint_text}
-use Rattle.bgp_why.specs.declared.endpoint.Endpoint.{Endpoint}
+use Rattle.bgp_ended.specs.Endpoint.{endpoint_text}
+use Rattle.bgp_ended.specs.DeclaredEndpoint.{Endpoint}
 use Rattle.bgp_import.specs.ListText.{other_side}
 use Rattle.bgp_import.specs.Refusals.{refusal_name, refusal_number, refusal_packet}
 use Rattle.bgp_import.specs.declared.refusal.Refusal.{Refusal}

@@ -5,7 +5,7 @@ use Rattle.streams.specs.declared.connection.Closing.{Closing}
 use Rattle.streams.specs.declared.connection.Closing.TheVariants.{Fin, Reset}
 use Rattle.streams.specs.declared.connection.Opening.{Opening}
 use Rattle.bgp_prefix.specs.declared.session.Session.{Session}
-use Rattle.bgp_why.specs.declared.endpoint.Endpoint.{Endpoint}
+use Rattle.bgp_ended.specs.DeclaredEndpoint.{Endpoint}
 use Rattle.bgp_json_values.specs.ErrorJson.{error_members}
 use Rattle.bgp_json_values.specs.Objects.{number_of, object_of}
 use Rattle.bgp_json_values.specs.Times.{time_members}

@@ -1,7 +1,7 @@
 -- Members that several objects of a list have.
 use Rattle.std.specs.Prelude.{ℕ, List, [], ◌∷◌, Option, None, Some}
 use Rattle.json.specs.Json.{Json}
-use Rattle.bgp_why.specs.declared.endpoint.Endpoint.{Endpoint}
+use Rattle.bgp_ended.specs.DeclaredEndpoint.{Endpoint}
 use Rattle.bgp_json_values.specs.Objects.{array_of, number_of}
 use Rattle.bgp_json_values.specs.Texts.{address_json}
 

@@ -13,3 +13,5 @@ pub mod Forms
 pub mod Recording
 pub mod EachListed
 pub mod Capture
+pub use Rattle.bgp_ended.specs.Values
+pub use Rattle.bgp_ended.specs.PeerAs

@@ -11,11 +11,10 @@ ghost use Rattle.bgp_list.specs.Connections.{refused_between_text, refused_conne
 
 use crate::cause::cause_of;
 use bgp_clock::put_when;
-use bgp_ended::{Ended, Outline, put_ended};
+use bgp_ended::{Ended, Endpoint, Outline, put_ended, put_endpoint};
 use bgp_import::{Refusal, other_side};
 use bgp_prefix::Session;
 use bgp_text::{Lines, put_address};
-use bgp_why::{Endpoint, put_endpoint};
 use mrt::Sink;
 use segments::Addresses;
 use streams::{Opening, Side};

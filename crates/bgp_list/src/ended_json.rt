@@ -8,13 +8,11 @@ ghost use Rattle.bgp_list.specs.EndedJson.{closing_word, end_members, ended_memb
 
 use crate::connection::endpoint_of;
 use crate::members::put_end_members;
-use bgp_ended::{Ended, How};
+use bgp_ended::{Ended, Endpoint, How};
 use bgp_json::{put_states, put_text};
-use bgp_json_values::{put_error, put_number, put_time, put_truth};
+use bgp_json_values::{Writer, put_error, put_number, put_time, put_truth};
 use bgp_open::Notification;
 use bgp_prefix::Session;
-use bgp_why::Endpoint;
-use json::Writer;
 use std::alloc::{AllocError, Allocator};
 use streams::{Closing, Opening};
 

@@ -12,7 +12,7 @@ ghost use Rattle.bgp_list.specs.SessionJson.{session_json};
 
 use crate::line::Line;
 use crate::session_json::write_session;
-use json::Writer;
+use bgp_json_values::Writer;
 use mrt_sessions::{Addresses, NamedRecord, Sessions};
 use std::alloc::{AllocError, Allocator};
 
@@ -21,7 +21,7 @@ fn start<A: Allocator>(alloc: A) -> Writer<A>
     ensures before { result.before ≡ [] }
     ensures tokens { result.tokens ≡ [] }
 {
-    Writer::new(Vec::new(alloc))
+    Writer::new(alloc)
 }
 
 /// Appends the line of the object that was written.

@@ -27,6 +27,7 @@ mod refusal_json;
 mod session;
 mod session_json;
 
+pub use bgp_ended::{How, PeerAs};
 pub use capture::{ListedCapture, fault_status, list_capture, put_fault};
 pub use connection::{
     endpoint_of, put_connection, put_refused, put_refused_between, put_refused_connection,

@@ -14,9 +14,9 @@ use crate::connection::{put_connection, put_refused_between, put_refused_connect
 use crate::connection_json::{write_connection, write_refused_between, write_refused_connection};
 use bgp_ended::{Outline, outline_of};
 use bgp_import::{Listed, Refusal, octets_from, other_side, refused, selection_of};
+use bgp_json_values::Writer;
 use bgp_prefix::Session;
 use bgp_text::Lines;
-use json::Writer;
 use mrt::Sink;
 use segments::Addresses;
 use std::alloc::{AllocError, Allocator};

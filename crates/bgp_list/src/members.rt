@@ -5,9 +5,8 @@ ghost use Rattle.bgp_json_values.specs.Adding.{Adds};
 ghost use Rattle.bgp_json_values.specs.Objects.{members_tokens};
 ghost use Rattle.bgp_list.specs.JsonMembers.{endpoint_members, number_members, pair_members};
 
-use bgp_json_values::{put_address, put_number};
-use bgp_why::Endpoint;
-use json::Writer;
+use bgp_ended::Endpoint;
+use bgp_json_values::{Writer, put_address, put_number};
 use std::alloc::{AllocError, Allocator};
 
 /// A port, if it is known.

@@ -11,8 +11,7 @@ ghost use Rattle.bgp_list.specs.SessionJson.{session_json};
 use crate::members::put_pair;
 use crate::session::{first_second, last_second};
 use bgp_json::begin;
-use bgp_json_values::{put_address, put_number};
-use json::Writer;
+use bgp_json_values::{Writer, put_address, put_number};
 use mrt_sessions::{Addresses, Counts, NamedRecord};
 use std::alloc::{AllocError, Allocator};
 

@@ -2,9 +2,9 @@
 use Rattle.std.proofs.Common.{◌≡◌, ℕ, ◌⊎◌, ◌↔◌, inl, inr, false, List, [], ◌∷◌, IsTrue, Option, None, Some, IsSome, refl, ap, ◌∙◌}
 use Rattle.bgp_open.specs.declared.families.Families.{Families}
 use Rattle.bgp_open.specs.declared.link.Link.{Link}
-use Rattle.bgp_update.specs.declared.outcomes.Outcomes.{Outcomes}
-use Rattle.bgp_update.specs.Changes.{RouteChanges}
-use Rattle.bgp_update.specs.Outcome.{Applied}
+use Rattle.bgp_rib.specs.Outcomes.{Outcomes}
+use Rattle.bgp_rib.specs.Changes.{RouteChanges}
+use Rattle.bgp_rib.specs.Outcome.{Applied}
 use Rattle.bgp_machine.specs.declared.fsm.Fsm.{Fsm}
 use Rattle.bgp_machine.specs.declared.hearing.Heard.{Heard}
 use Rattle.bgp_machine.specs.declared.hearing.Heard.TheVariants as heard

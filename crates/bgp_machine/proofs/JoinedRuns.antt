@@ -1,6 +1,6 @@
 -- Runs are joined.
 use Rattle.std.proofs.Common.{◌≡◌, List, [], ◌∷◌, ◌++◌, refl, sym, ap, subst, ◌∙◌, append_assoc}
-use Rattle.bgp_prefix.specs.Shown.{ShownRecord}
+use Rattle.bgp_open.specs.Shown.{ShownRecord}
 use Rattle.bgp_open.specs.declared.config.Config.{Config}
 use Rattle.bgp_machine.specs.Joined.{RunsAreJoined, NoStepIsARun, StepAndRunAreJoined}
 use Rattle.bgp_machine.specs.Run.{Taken, AreSteps, records_of}

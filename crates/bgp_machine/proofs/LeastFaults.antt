@@ -6,8 +6,8 @@ use Rattle.bgp_wire.specs.Least.{IsLeastNamed}
 use Rattle.bgp_wire.specs.Verdict.{Names as NamesHeaderFault, IsEmpty as IsEmptyHeader}
 use Rattle.bgp_open.specs.declared.subcodes.OpenSubcodes.{OpenSubcodes}
 use Rattle.bgp_open.specs.OpenSubcodes.{Names as NamesOpenError, IsEmpty as IsEmptyOpen}
-use Rattle.bgp_update.specs.declared.subcodes.Subcodes.{Subcodes}
-use Rattle.bgp_update.specs.Subcodes.{HasSubcode}
+use Rattle.bgp_rib.specs.DeclaredSubcodes.{Subcodes}
+use Rattle.bgp_rib.specs.Subcodes.{HasSubcode}
 use Rattle.bgp_machine.specs.declared.want.FaultSet.{FaultSet}
 use Rattle.bgp_machine.specs.declared.want.FaultSet.TheVariants.{Header, Open, Update}
 use Rattle.bgp_machine.specs.Want.{IsLeastFault, NamesFault}

@@ -12,3 +12,5 @@ pub mod ShownRows
 pub mod OneStep
 pub mod JoinedRuns
 pub mod LeastFaults
+pub use Rattle.bgp_rib.proofs.RouteLaws
+pub use Rattle.bgp_rib.proofs.OneOutcome

@@ -1,7 +1,7 @@
 -- What it is to disable several families, and to make no changes.
 use Rattle.std.proofs.Common.{◌≡◌, ◌∙◌, ◌||◌, ◌⊎◌, inl, inr, Bool, true, false, cond, not, List, refl, ap, sym}
-use Rattle.bgp_prefix.specs.declared.family.Family.TheVariants.{V4, V6}
-use Rattle.bgp_update.specs.declared.destination.Destination.{Destination}
+use Rattle.bgp_open.specs.Family.TheVariants.{V4, V6}
+use Rattle.bgp_rib.specs.Destination.{Destination}
 use Rattle.bgp_open.specs.declared.families.Families.{Families}
 use Rattle.bgp_open.specs.Families.{contains, union}
 use Rattle.bgp_rib.specs.Routes.{Routes, entries_outside, only, routes_after, routes_without}

@@ -21,9 +21,9 @@ use Rattle.bgp_open.specs.declared.subcodes.OpenSubcodes.{OpenSubcodes}
 use Rattle.bgp_open.specs.OpenSubcodes.{AreSubcodesOf, IsEmpty, IsValid, IsOfOtherVersion}
 use Rattle.bgp_open.specs.OwnOpen.{own_fields}
 use Rattle.bgp_open.specs.Written.{notification_octets, open_octets}
-use Rattle.bgp_update.specs.declared.subcodes.Subcodes.{Subcodes}
-use Rattle.bgp_update.specs.Laws.{HasCleanUpdate, empty_update}
-use Rattle.bgp_update.specs.Subcodes.{HasSubcode, marks_of}
+use Rattle.bgp_rib.specs.DeclaredSubcodes.{Subcodes}
+use Rattle.bgp_rib.specs.Laws.{HasCleanUpdate, empty_update}
+use Rattle.bgp_rib.specs.Subcodes.{HasSubcode, marks_of}
 use Rattle.bgp_machine.specs.declared.hearing.Heard.{Heard}
 use Rattle.bgp_machine.specs.declared.hearing.Heard.TheVariants as heard
 use Rattle.bgp_machine.specs.declared.rows.HiddenRow.{HiddenRow}

@@ -1,6 +1,6 @@
 -- Steps that show no record lead to the heads of `silent_heads`, and to no other.
 use Rattle.std.proofs.Common.{◌≡◌, ℕ, Bool, true, false, ◌⊎◌, inl, inr, List, [], ◌∷◌, ◌++◌, IsTrue, if◌then◌else◌, None, Some, refl, sym, ap, subst, ◌∙◌}
-use Rattle.bgp_prefix.specs.Shown.{ShownRecord}
+use Rattle.bgp_open.specs.Shown.{ShownRecord}
 use Rattle.bgp_rib.specs.Routes.{Routes}
 use Rattle.bgp_open.specs.declared.config.Config.{Config}
 use Rattle.bgp_machine.specs.declared.fsm.Fsm.{Fsm}

@@ -1,6 +1,6 @@
 -- Each step that a record opens falls to Idle or goes the one way: a clause a row and kind of record.
 use Rattle.std.proofs.Common.{◌≡◌, ℕ, true, false, ◌⊎◌, inl, inr, List, [], ◌∷◌, Option, refl, sym, ap, subst, ◌∙◌}
-use Rattle.bgp_prefix.specs.Shown.{ShownRecord, Received, Sent, Changed, second_of}
+use Rattle.bgp_open.specs.Shown.{ShownRecord, Received, Sent, Changed, second_of}
 use Rattle.bgp_open.specs.declared.config.Config.{Config}
 use Rattle.bgp_machine.specs.declared.fsm.Fsm.{Fsm}
 use Rattle.bgp_machine.specs.declared.fsm.Fsm.TheVariants as fsms

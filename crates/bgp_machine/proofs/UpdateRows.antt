@@ -1,17 +1,17 @@
 -- What the rows about an UPDATE make.
 use Rattle.std.proofs.Common.{◌≡◌, ℕ, Bool, true, false, ◌⊎◌, inl, inr, List, [], ◌∷◌, IsTrue, Option, None, Some, MatchOption, MatchBool, refl, sym, ap, subst, ◌∙◌}
-use Rattle.bgp_prefix.specs.declared.family.Family.TheVariants.{V4, V6}
+use Rattle.bgp_open.specs.Family.TheVariants.{V4, V6}
 use Rattle.bgp_open.specs.declared.families.Families.{Families}
 use Rattle.bgp_open.specs.declared.link.Link.{Link}
 use Rattle.bgp_open.specs.Families.{contains}
-use Rattle.bgp_update.specs.declared.outcomes.Changes.{Changes}
-use Rattle.bgp_update.specs.declared.outcomes.Outcomes.{Outcomes}
-use Rattle.bgp_update.specs.declared.subcodes.Subcodes.{Subcodes}
-use Rattle.bgp_update.specs.Allowed.{changes_value}
-use Rattle.bgp_update.specs.Changes.{RouteChanges}
-use Rattle.bgp_update.specs.Disabled.{IsDisabled}
-use Rattle.bgp_update.specs.Outcome.{Applied, Reset, IsOutcome}
-use Rattle.bgp_update.specs.Subcodes.{HasSubcode, SubcodesAreSets}
+use Rattle.bgp_rib.specs.DeclaredChanges.{Changes}
+use Rattle.bgp_rib.specs.Outcomes.{Outcomes}
+use Rattle.bgp_rib.specs.DeclaredSubcodes.{Subcodes}
+use Rattle.bgp_rib.specs.Allowed.{changes_value}
+use Rattle.bgp_rib.specs.Changes.{RouteChanges}
+use Rattle.bgp_rib.specs.Disabled.{IsDisabled}
+use Rattle.bgp_rib.specs.Outcome.{Applied, Reset, IsOutcome}
+use Rattle.bgp_rib.specs.Subcodes.{HasSubcode, SubcodesAreSets}
 use Rattle.bgp_machine.specs.declared.fsm.Fsm.{Fsm}
 use Rattle.bgp_machine.specs.declared.fsm.Fsm.TheVariants as fsms
 use Rattle.bgp_machine.specs.declared.rows.ReceivedRow.{ReceivedRow}

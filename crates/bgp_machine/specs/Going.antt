@@ -3,11 +3,11 @@
 -- they disable.
 use Rattle.std.specs.Prelude.{◌≡◌, ◌≢◌, ◌⊎◌, ◌==◌, if◌then◌else◌, ℕ, List, [], ◌∷◌, Option, None}
 use Rattle.std.specs.Prelude.{Some, false}
-use Rattle.bgp_prefix.specs.Shown.{ShownRecord, Changed, second_of}
+use Rattle.bgp_open.specs.Shown.{ShownRecord, Changed, second_of}
 use Rattle.bgp_open.specs.declared.config.Config.{Config}
 use Rattle.bgp_open.specs.declared.families.Families.{Families}
-use Rattle.bgp_update.specs.Changes.{RouteChanges}
-use Rattle.bgp_update.specs.Outcome.{IsOutcome, Applied}
+use Rattle.bgp_rib.specs.Changes.{RouteChanges}
+use Rattle.bgp_rib.specs.Outcome.{IsOutcome, Applied}
 use Rattle.bgp_machine.specs.declared.fsm.Fsm.{Fsm}
 use Rattle.bgp_machine.specs.declared.fsm.Fsm.TheVariants as fsms
 use Rattle.bgp_machine.specs.declared.state.Head.{Head}

@@ -1,6 +1,6 @@
 -- Runs are joined: what stands above the definition of a run.
 use Rattle.std.specs.Prelude.{◌++◌, List, []}
-use Rattle.bgp_prefix.specs.Shown.{ShownRecord}
+use Rattle.bgp_open.specs.Shown.{ShownRecord}
 use Rattle.bgp_open.specs.declared.config.Config.{Config}
 use Rattle.bgp_machine.specs.Run.{Taken, IsTaken, Run}
 use Rattle.bgp_machine.specs.State.{SessionState}

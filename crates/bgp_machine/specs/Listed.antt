@@ -2,10 +2,10 @@
 use Rattle.std.specs.Prelude.{◌≡◌, ℕ, List, [], Option, None, Some}
 use Rattle.bgp_open.specs.declared.config.Config.{Config}
 use Rattle.bgp_open.specs.declared.families.Families.{Families}
-use Rattle.bgp_update.specs.declared.outcomes.Changes.{Changes}
-use Rattle.bgp_update.specs.Allowed.{changes_value}
-use Rattle.bgp_update.specs.Changes.{RouteChanges}
-use Rattle.bgp_update.specs.Outcome.{IsOnlyReset}
+use Rattle.bgp_rib.specs.DeclaredChanges.{Changes}
+use Rattle.bgp_rib.specs.Allowed.{changes_value}
+use Rattle.bgp_rib.specs.Changes.{RouteChanges}
+use Rattle.bgp_rib.specs.Outcome.{IsOnlyReset}
 use Rattle.bgp_machine.specs.declared.step.After.{After}
 use Rattle.bgp_machine.specs.declared.step.Routes.{Routes}
 use Rattle.bgp_machine.specs.declared.step.Routes.TheVariants as routes

@@ -4,10 +4,10 @@ use Rattle.std.specs.Prelude.{if◌then◌else◌, ◌≡◌, ◌⊎◌, ◌++�
 use Rattle.std.specs.Prelude.{Option, MatchOption}
 use Rattle.bgp_open.specs.declared.config.Config.{Config}
 use Rattle.bgp_open.specs.declared.link.Link.{Link}
-use Rattle.bgp_update.specs.declared.outcomes.Outcomes.{Outcomes}
-use Rattle.bgp_update.specs.Allowed.{Allows}
-use Rattle.bgp_update.specs.Changes.{RouteChanges}
-use Rattle.bgp_update.specs.Outcome.{Outcome, IsOutcome}
+use Rattle.bgp_rib.specs.Outcomes.{Outcomes}
+use Rattle.bgp_rib.specs.Allowed.{Allows}
+use Rattle.bgp_rib.specs.Changes.{RouteChanges}
+use Rattle.bgp_rib.specs.Outcome.{Outcome, IsOutcome}
 use Rattle.bgp_machine.specs.declared.step.Step.{Step}
 use Rattle.bgp_machine.specs.declared.fsm.Fsm.{Fsm}
 use Rattle.bgp_machine.specs.declared.fsm.Fsm.TheVariants as fsms

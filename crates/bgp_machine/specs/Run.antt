@@ -1,6 +1,6 @@
 -- Runs of the session machine: finite lists of steps, and the records that they show, joined.
 use Rattle.std.specs.Prelude.{◌≡◌, ◌++◌, ℕ, Bool, false, IsTrue, List, [], ◌∷◌}
-use Rattle.bgp_prefix.specs.Shown.{ShownRecord}
+use Rattle.bgp_open.specs.Shown.{ShownRecord}
 use Rattle.bgp_open.specs.declared.config.Config.{Config}
 use Rattle.bgp_rib.specs.Routes.{Routes}
 use Rattle.bgp_machine.specs.declared.fsm.Fsm.{Fsm}

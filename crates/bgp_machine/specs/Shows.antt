@@ -1,7 +1,7 @@
 -- What a step shows: a record for its message, if it has one; then one for each message that it
 -- sends, in order, and among these, at any place, one for its change of state, if there is one.
 use Rattle.std.specs.Prelude.{◌≡◌, ℕ, List, [], ◌∷◌, Option, None, Some}
-use Rattle.bgp_prefix.specs.Shown.{ShownRecord, Received, Sent, Changed, second_of}
+use Rattle.bgp_open.specs.Shown.{ShownRecord, Received, Sent, Changed, second_of}
 use Rattle.bgp_open.specs.declared.config.Config.{Config}
 use Rattle.bgp_open.specs.declared.link.Link.{Link}
 use Rattle.bgp_machine.specs.declared.fsm.Fsm.{Fsm}

@@ -5,7 +5,7 @@ use Rattle.std.specs.Prelude.{ℕ, Option, None, Some}
 use Rattle.bgp_open.specs.declared.config.Config.{Config}
 use Rattle.bgp_open.specs.declared.families.Families.{Families}
 use Rattle.bgp_open.specs.declared.link.Link.{Link}
-use Rattle.bgp_update.specs.Changes.{RouteChanges}
+use Rattle.bgp_rib.specs.Changes.{RouteChanges}
 use Rattle.bgp_rib.specs.Routes.{Routes, no_routes, routes_after, routes_without}
 use Rattle.bgp_machine.specs.declared.fsm.Fsm.{Fsm}
 use Rattle.bgp_machine.specs.declared.fsm.Fsm.TheVariants as fsms

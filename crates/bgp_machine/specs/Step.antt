@@ -7,10 +7,10 @@ use Rattle.std.specs.Prelude.{◌≡◌, ◌<◌, ◌≤◌, ◌+◌, ◌↔◌,
 use Rattle.std.specs.Prelude.{IsTrue, if◌then◌else◌, Option, None, Some}
 use Rattle.bgp_open.specs.declared.config.Config.{Config}
 use Rattle.bgp_open.specs.declared.link.Link.{Link}
-use Rattle.bgp_update.specs.declared.subcodes.Subcodes.{Subcodes}
-use Rattle.bgp_update.specs.Changes.{RouteChanges}
-use Rattle.bgp_update.specs.Outcome.{IsOutcome, Applied, Reset}
-use Rattle.bgp_update.specs.Subcodes.{HasSubcode}
+use Rattle.bgp_rib.specs.DeclaredSubcodes.{Subcodes}
+use Rattle.bgp_rib.specs.Changes.{RouteChanges}
+use Rattle.bgp_rib.specs.Outcome.{IsOutcome, Applied, Reset}
+use Rattle.bgp_rib.specs.Subcodes.{HasSubcode}
 use Rattle.bgp_machine.specs.declared.fsm.Fsm.{Fsm}
 use Rattle.bgp_machine.specs.declared.fsm.Fsm.TheVariants as fsms
 use Rattle.bgp_machine.specs.declared.state.Head.{Head}

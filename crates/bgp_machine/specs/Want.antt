@@ -11,8 +11,8 @@ use Rattle.bgp_open.specs.declared.link.Link.{Link}
 use Rattle.bgp_open.specs.Notification.{IsNotification}
 use Rattle.bgp_open.specs.OpenSubcodes.{Names as NamesOpenError}
 use Rattle.bgp_open.specs.OwnOpen.{IsOwnOpen}
-use Rattle.bgp_update.specs.Clean.{IsClean}
-use Rattle.bgp_update.specs.Subcodes.{HasSubcode}
+use Rattle.bgp_rib.specs.Clean.{IsClean}
+use Rattle.bgp_rib.specs.Subcodes.{HasSubcode}
 use Rattle.bgp_machine.specs.declared.want.Unexpected.{Unexpected}
 use Rattle.bgp_machine.specs.declared.want.Unexpected.TheVariants.{InOpenSent, InOpenConfirm}
 use Rattle.bgp_machine.specs.declared.want.Unexpected.TheVariants.{InEstablished}

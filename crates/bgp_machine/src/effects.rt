@@ -14,8 +14,7 @@ use crate::fsm::Fsm;
 use crate::state::{Head, HoldTimer};
 use crate::step::{After, Routes, Step};
 use crate::want::{FaultSet, Unexpected, Want, Wants};
-use bgp_open::{Config, Link};
-use bgp_prefix::Seconds;
+use bgp_open::{Config, Link, Seconds};
 
 /// The change of state that is shown.
 fn change(old: Fsm, new: Fsm) -> Option<(Fsm, Fsm)>

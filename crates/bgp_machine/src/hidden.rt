@@ -20,8 +20,7 @@ use crate::state::{Head, HoldTimer};
 use crate::step::Step;
 use crate::want::{Want, Wants};
 use arrayvec::ArrayVec;
-use bgp_open::{Config, Link};
-use bgp_prefix::Seconds;
+use bgp_open::{Config, Link, Seconds};
 
 /// What the rows of Idle make.
 fn idle_step(row: HiddenRow) -> Option<Step>

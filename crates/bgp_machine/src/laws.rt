@@ -4,7 +4,7 @@ ghost use Rattle.bgp_machine.specs.Going.{HiddenShape, ReceivedShape};
 ghost use Rattle.bgp_machine.specs.Joined.{NoStepIsARun, RunsAreJoined, StepAndRunAreJoined};
 ghost use Rattle.bgp_machine.specs.Owed.{EachOwedCanBeMet, EachOwedSetHasFault, NoteKeepsState};
 
-use bgp_update::empty_is_clean;
+use bgp_rib::empty_is_clean;
 
 /// Law: all steps that one record opens and that do not fall to Idle go one way. With the same left
 /// to send they end in one head, and their routes stay or get the message's one list of changes. A

@@ -30,6 +30,9 @@ mod step;
 mod updates;
 mod want;
 
+pub use bgp_rib::{
+    Changes, RibIn, Subcodes, empty_is_clean, equality_is_real, read_update, some_outcome,
+};
 pub use fsm::Fsm;
 pub use hearing::{Heard, hear, received_limit};
 pub use hidden::{hidden_step, hidden_steps};

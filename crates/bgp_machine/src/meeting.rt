@@ -9,7 +9,7 @@ ghost use Rattle.bgp_machine.specs.declared.want.Want.TheVariants as wants;
 
 use crate::want::{FaultSet, Unexpected, Want};
 use bgp_open::{Config, Link, is_own_open, read_notification};
-use bgp_update::is_clean;
+use bgp_rib::is_clean;
 use bgp_wire::{ErrorCode, Limit, MessageType, is_frame, message_body};
 
 /// How long a sent message may be: on a link as the peer offered (RFC 8654, 4), whatever the local

@@ -2,7 +2,7 @@
 
 ghost use Rattle.std.specs.Prelude.{◌≡◌, ◌↔◌, ℕ, List, [], IfOk, IsErr, IsSome, OnErr};
 ghost use Rattle.bgp_open.specs.declared.config.Config.{Config as TheConfig};
-ghost use Rattle.bgp_update.specs.Outcome.{IsOnlyReset};
+ghost use Rattle.bgp_rib.specs.Outcome.{IsOnlyReset};
 ghost use Rattle.bgp_machine.specs.Heard.{Hears};
 ghost use Rattle.bgp_machine.specs.Listed.{ListsReceived, MakesChanges, TakesMemory, changes_of};
 ghost use Rattle.bgp_machine.specs.Lists.{Has};
@@ -17,9 +17,8 @@ use crate::state::{Head, HoldTimer};
 use crate::step::Step;
 use crate::updates::update_steps;
 use arrayvec::ArrayVec;
-use bgp_open::{Config, Link};
-use bgp_prefix::Seconds;
-use bgp_update::{Changes, read_update};
+use bgp_open::{Config, Link, Seconds};
+use bgp_rib::{Changes, read_update};
 use std::alloc::{AllocError, Allocator};
 
 /// Lists the steps about a message whose outcomes needn't be known, and answers that no changes

@@ -9,10 +9,8 @@ ghost use Rattle.bgp_machine.specs.declared.step.Routes.TheVariants as turns;
 
 use crate::state::State;
 use crate::step::{After, Routes};
-use bgp_open::Families;
-use bgp_prefix::Family;
-use bgp_rib::RibIn;
-use bgp_update::Changes;
+use bgp_open::{Families, Family};
+use bgp_rib::{Changes, RibIn};
 use std::alloc::{AllocError, Allocator};
 
 impl<A: Allocator + Copy> State<A> {

@@ -26,8 +26,7 @@ use crate::state::{Head, HoldTimer};
 use crate::step::Step;
 use crate::want::{FaultSet, Unexpected, Want, Wants};
 use arrayvec::ArrayVec;
-use bgp_open::{Link, OpenSubcodes};
-use bgp_prefix::Seconds;
+use bgp_open::{Link, OpenSubcodes, Seconds};
 use bgp_wire::HeaderFaults;
 
 /// What Idle does about a message.

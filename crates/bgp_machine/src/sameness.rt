@@ -7,7 +7,7 @@ use crate::state::{Head, HoldTimer};
 use crate::step::{Routes, Step};
 use crate::want::{FaultSet, Want, Wants};
 use bgp_open::{Families, Link, OpenSubcodes, RouteForm};
-use bgp_update::Subcodes;
+use bgp_rib::Subcodes;
 use bgp_wire::HeaderFaults;
 
 fn same_timer(a: HoldTimer, b: HoldTimer) -> bool

@@ -5,8 +5,7 @@ ghost use Rattle.bgp_machine.specs.State.{fsm_of, link_at, fresh_state, state_va
 ghost use Rattle.bgp_machine.specs.Step.{IsRunning, IsExpired};
 
 use crate::fsm::Fsm;
-use bgp_open::Link;
-use bgp_prefix::Seconds;
+use bgp_open::{Link, Seconds};
 use bgp_rib::RibIn;
 use std::alloc::{Allocator, Global};
 

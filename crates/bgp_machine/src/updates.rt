@@ -3,7 +3,7 @@
 ghost use Rattle.std.specs.Prelude.{◌≡◌, ◌↔◌, ◌⊎◌, ◌≤◌, ◌<◌, ◌+◌, ◌++◌, List, [], ◌∷◌, ℕ, IsTrue};
 ghost use Rattle.arrayvec.specs.ArrayVec.{array_vec_len};
 ghost use Rattle.bgp_open.specs.Families.{contains};
-ghost use Rattle.bgp_update.specs.Disabled.{IsDisabled};
+ghost use Rattle.bgp_rib.specs.Disabled.{IsDisabled};
 ghost use Rattle.bgp_machine.specs.Rows.{AreOutcomes, ListsRows, MakesUpdate, UpdateShown};
 ghost use Rattle.bgp_machine.specs.Listed.{changes_of};
 ghost use Rattle.bgp_machine.specs.Rows.{update_rows};
@@ -17,9 +17,8 @@ use crate::state::{Head, HoldTimer};
 use crate::step::{After, Routes, Step};
 use crate::want::{FaultSet, Wants};
 use arrayvec::ArrayVec;
-use bgp_open::{Families, Link};
-use bgp_prefix::Seconds;
-use bgp_update::{Outcomes, subcodes_are_sets};
+use bgp_open::{Families, Link, Seconds};
+use bgp_rib::{Outcomes, subcodes_are_sets};
 use std::alloc::Allocator;
 
 /// Whether a family is disabled where it has to be, and only where it may be.
@@ -89,7 +88,7 @@ fn refusing<A: Allocator>(own: Link, timer: HoldTimer, outcomes: &Outcomes<A>) -
 /// may be applied with just these families disabled, `NamesFault` if the session may be reset, and
 /// any other row makes none. `own` and `timer` are the link and the HoldTimer of the state.
 ///
-/// The outcomes are those that [`read_update`](bgp_update::read_update) returns on this link.
+/// The outcomes are those that [`read_update`](bgp_rib::read_update) returns on this link.
 pub fn update_step<A: Allocator>(
     own: Link,
     timer: HoldTimer,

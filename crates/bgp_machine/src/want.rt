@@ -4,7 +4,7 @@ ghost use Rattle.std.specs.Prelude.{◌≡◌, ℕ, List, IfSome, IfNone};
 ghost use Rattle.bgp_machine.specs.Want.{subcode_of, NamesFault, IsLeastFault};
 
 use bgp_open::OpenSubcodes;
-use bgp_update::Subcodes;
+use bgp_rib::Subcodes;
 use bgp_wire::{ErrorCode, HeaderFaults, NamedFault};
 
 /// A state in which a message was received that it doesn't expect; its number is the subcode of

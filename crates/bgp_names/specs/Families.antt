@@ -2,7 +2,7 @@
 -- one, as IANA's registries "Address Family Numbers" and "SAFI Values" have them.
 use Rattle.std.specs.Prelude.{◌++◌, ℕ, Bool, true, false, List, [], ◌∷◌, codes}
 use Rattle.std.specs.Fmt.{decimal}
-use Rattle.bgp_open.specs.declared.families.Families.{Families}
+use Rattle.bgp_text.specs.DeclaredFamilies.{Families}
 use Rattle.bgp_names.specs.Naming.{name_of_two_in, name_or, named}
 
 -- the Address Family Identifiers (RFC 4760, 3)

@@ -9,8 +9,7 @@ ghost use Rattle.bgp_names.specs.Attributes.{attribute_name, attribute_names, or
 ghost use Rattle.bgp_names.specs.Attributes.{attribute_word, attribute_words, segment_names};
 
 use crate::naming::put_named;
-use bgp_text::Lines;
-use mrt::Sink;
+use bgp_text::{Lines, Sink};
 
 /// Returns the name of an attribute, if it has one.
 pub fn name_of_attribute(kind: u8) -> Option<&'static str>

@@ -8,8 +8,7 @@ ghost use Rattle.bgp_names.specs.Capabilities.{capability_name, capability_names
 ghost use Rattle.bgp_names.specs.Capabilities.{way_names};
 
 use crate::naming::put_named;
-use bgp_text::Lines;
-use mrt::Sink;
+use bgp_text::{Lines, Sink};
 
 /// Returns the name of a capability, if it has one.
 pub fn name_of_capability(code: u8) -> Option<&'static str>

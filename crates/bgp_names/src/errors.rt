@@ -10,8 +10,7 @@ ghost use Rattle.bgp_names.specs.Errors.{open_error_names, update_error_names, c
 ghost use Rattle.bgp_names.specs.Errors.{fsm_error_names, refresh_error_names, has_subcode};
 
 use crate::naming::put_named;
-use bgp_text::Lines;
-use mrt::Sink;
+use bgp_text::{Lines, Sink};
 
 /// Returns the name of an error code, if it has one.
 pub fn name_of_code(code: u8) -> Option<&'static str>

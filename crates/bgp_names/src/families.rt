@@ -8,9 +8,7 @@ ghost use Rattle.bgp_names.specs.Families.{afi_name, afi_names, family_name, fam
 ghost use Rattle.bgp_names.specs.Families.{families_name, family_numbers};
 
 use crate::naming::put_named;
-use bgp_open::Families;
-use bgp_text::Lines;
-use mrt::Sink;
+use bgp_text::{Families, Lines, Sink};
 
 /// Returns the name of an Address Family Identifier, if it has one.
 fn name_of_afi(afi: u16) -> Option<&'static str>

@@ -23,6 +23,7 @@ mod states;
 pub use attributes::{
     name_of_attribute, name_of_origin, name_of_segment, put_attribute_name, put_attribute_word,
 };
+pub use bgp_text::Lines;
 pub use capabilities::{name_of_capability, name_of_role, name_of_way, put_capability_name};
 pub use errors::{
     has_subcode, name_of_code, name_of_subcode, put_code_name, put_error_name,

@@ -6,8 +6,7 @@ ghost use Rattle.bgp_text.specs.Lines.{Writes};
 ghost use Rattle.bgp_names.specs.Naming.{name_in};
 ghost use Rattle.bgp_names.specs.Messages.{after_blank, type_names, type_text};
 
-use bgp_text::Lines;
-use mrt::Sink;
+use bgp_text::{Lines, Sink};
 
 /// Returns the name of a message type, if it has one.
 fn name_of_type(number: u8) -> Option<&'static str>

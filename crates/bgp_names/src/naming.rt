@@ -5,9 +5,8 @@ ghost use Rattle.std.specs.Borrow.{Bor};
 ghost use Rattle.bgp_text.specs.Lines.{Writes};
 ghost use Rattle.bgp_names.specs.Naming.{name_or};
 
-use bgp_text::Lines;
+use bgp_text::{Lines, Sink};
 use itoa::Integer;
-use mrt::Sink;
 
 /// Puts a name, or the word and the number if there is none.
 pub(crate) fn put_named<W: Sink, I: Integer>(

@@ -7,8 +7,7 @@ ghost use Rattle.bgp_names.specs.Naming.{name_in};
 ghost use Rattle.bgp_names.specs.States.{state_name, state_names};
 
 use crate::naming::put_named;
-use bgp_text::Lines;
-use mrt::Sink;
+use bgp_text::{Lines, Sink};
 
 /// Returns the name of a state, by its number in captures (RFC 6396, 4.4.1), if it has one.
 pub fn name_of_state(number: u16) -> Option<&'static str>

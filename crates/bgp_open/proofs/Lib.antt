@@ -14,3 +14,5 @@ pub mod CapabilityEntries
 pub mod SettledForms
 pub mod OneOffer
 pub mod TwoEnds
+pub use Rattle.bgp_prefix.proofs.OneSpelling
+pub use Rattle.bgp_prefix.proofs.PrefixParts

@@ -13,3 +13,8 @@ pub mod OpenSubcodes
 pub mod OwnOpen
 pub mod Written
 pub mod TwoEnds
+pub use Rattle.bgp_prefix.specs.Address
+pub use Rattle.bgp_prefix.specs.Bits
+pub use Rattle.bgp_prefix.specs.Prefix
+pub use Rattle.bgp_prefix.specs.declared.family.Family
+pub use Rattle.bgp_prefix.specs.Shown

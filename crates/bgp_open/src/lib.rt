@@ -27,6 +27,7 @@ mod subcodes;
 mod triplet;
 mod written_open;
 
+pub use bgp_prefix::{Family, Prefix, Seconds};
 pub use capability::{Capabilities, Capability};
 pub use config::{Config, ConfigParts};
 pub use families::Families;

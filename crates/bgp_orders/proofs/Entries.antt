@@ -50,7 +50,7 @@ timed_is before (Passed second item ∷ later) h =
 
 -- ---- the records of a way
 
-map_map : (entries : List Entry) → map (λ (n : Numbered). n.shown) (map numbered_of entries) ≡ records_of entries
+pub map_map : (entries : List Entry) → map (λ (n : Numbered). n.shown) (map numbered_of entries) ≡ records_of entries
 map_map [] = refl
 map_map (entry ∷ entries) = ap (λ (v : List ShownRecord). shown_of entry.record ∷ v) (map_map entries)
 

@@ -12,3 +12,5 @@ pub mod Entries
 pub mod SentPlaces
 pub mod Tidy
 pub mod Many
+pub mod Tracks
+pub mod Along

@@ -255,3 +255,45 @@ module _ {X : Type 0} (config : Config) (within : ℕ) (exchange : Exchange) whe
   too_many_first most has =
       let all : most ≡ most - 0 = omega arith in
       more_than config within exchange {X = X} 0 0 most (none_counted config within exchange) (subst (λ (v : ℕ). HasMoreIn X config within exchange 0 v) all has)
+
+-- ---- rows so far, whatever they explain
+
+-- the row is that of so many sent messages, and there are so many nodes in the rows up to it
+pub record AreRowsTo {X : Type 0} (config : Config) (within : ℕ) (exchange : Exchange) (count total : ℕ) (nodes : List (CodeNode X)) : Type 0 where
+  pub row : IsRow config within exchange count nodes
+  pub tidy : IsTidy exchange nodes
+  pub counted : AreCounted config within exchange (suc count) total
+
+module _ {X : Type 0} (config : Config) (within : ℕ) (exchange : Exchange) where
+  pub first_to : (total : ℕ) (nodes : List (CodeNode X)) → IsRow config within exchange 0 nodes → IsTidy exchange nodes → total ≤ length nodes → AreRowsTo config within exchange 0 total nodes
+  first_to total nodes row tidy le = record {
+    row = row;
+    tidy = tidy;
+    counted = counted_with config within exchange 0 0 total nodes (none_counted config within exchange) tidy (λ n. (row n).0) (omega (arith, le));
+  }
+
+  pub more_to : (count total more : ℕ) (nodes next : List (CodeNode X)) → AreRowsTo config within exchange count total nodes → IsRow config within exchange (count + 1) next → IsTidy exchange next
+      → more ≤ total + length next → AreRowsTo config within exchange (count + 1) more next
+  more_to count total more nodes next so_far row tidy le = record {
+    row = row;
+    tidy = tidy;
+    counted = subst (λ (v : ℕ). AreCounted config within exchange (suc v) more) (one_more count)
+        (counted_with config within exchange (suc count) total more next so_far.counted tidy
+        (λ n h. subst (λ (v : ℕ). InRow config within exchange v n) (sym (one_more count)) ((row n).0 h)) le);
+  }
+
+  pub too_many_to : (count total most left : ℕ) (nodes : List (CodeNode X)) → AreRowsTo config within exchange count total nodes → left ≡ most - total
+      → HasMoreIn X config within exchange (count + 1) left → AreMoreNodes config within exchange most
+  too_many_to count total most left nodes so_far is has =
+      more_than config within exchange {X = X} (suc count) total most so_far.counted
+      (subst (λ (v : ℕ). HasMoreIn X config within exchange v (most - total)) (sym (one_more count)) (subst (λ (v : ℕ). HasMoreIn X config within exchange (count + 1) v) is has))
+
+  -- the rows up to this one have more already
+  pub many_to : (count total most : ℕ) (nodes : List (CodeNode X)) → AreRowsTo config within exchange count total nodes → most < total → AreMoreNodes config within exchange most
+  many_to count total most nodes so_far lt =
+      let all = so_far.counted in record {
+        nodes = all.nodes;
+        none_twice = all.none_twice;
+        reached = each_weaker (IsEarlier config within exchange (suc count)) (λ n. (order : List Item) × IsReachedBy config within exchange order n) (λ n h. reached_in config within exchange h.0 n h.2) all.nodes all.earlier;
+        more = let a = all.many in omega (arith, lt, a);
+      }

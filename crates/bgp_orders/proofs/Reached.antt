@@ -202,7 +202,7 @@ from_complete law config records e complete =
     let k = (ends_by_chains law config records e).0 complete in
     (bare k.0, (bare_chains config records fresh_member (bare k.0)).1 (k.0, k.1, refl), k.2, ap (λ (v : End). v.fsm) k.3)
 
-to_complete : EachOwedCanBeMet → (config : Config) (records : List ShownRecord) (m : Member) → BareReaches config fresh_member records m → IsFree m
+pub to_complete : EachOwedCanBeMet → (config : Config) (records : List ShownRecord) (m : Member) → BareReaches config fresh_member records m → IsFree m
     → (e : End) × IsComplete config records e × (e.fsm ≡ fsm_of m.state.head)
 to_complete law config records m k free =
     let x = (bare_chains config records fresh_member m).0 k in

@@ -9,6 +9,7 @@ use Rattle.bgp_recording.specs.declared.message.Message.{Message}
 use Rattle.bgp_recording.specs.declared.ordering.Exchange.{Exchange}
 use Rattle.bgp_recording.specs.Allowed.{Item, Received, Sent, Ended, sent_in, ends_in}
 use Rattle.bgp_recording.specs.Told.{IsTold}
+use Rattle.bgp_judge.specs.Member.{IsFree}
 use Rattle.bgp_orders.specs.declared.node.Node.{Node as CodeNode}
 use Rattle.bgp_orders.specs.Explained.{IsExplained, IsWhole}
 use Rattle.bgp_orders.specs.Nodes.{Node, IsFirstNode, Hears, Goes, IsLast}
@@ -172,6 +173,22 @@ no_end : (end : Option End) → count_of end ≡ 0 → end ≡ None
 no_end None h = refl
 no_end (Some e) h = absurd (omega (arith, h))
 
+-- at the end of the last row, where no received message is left, nothing is
+pub last_in : (config : Config) (within : ℕ) (exchange : Exchange) (n : Node) → InRow config within exchange (length exchange.sent.now + count_of exchange.end) n → n.received ≡ [] → IsFree n.member → IsLast n
+last_in config within exchange n here received free =
+    let first : Node = here.0 in
+    let k = from_goes_by config within (length exchange.sent.now + count_of exchange.end) first n here.2 in
+    let sent = sent_left config within k.0 first n k.1 in
+    let ends = ends_left config within k.0 first n k.1 in
+    let a = first_sent config exchange first here.1 in
+    let b = first_end config exchange first here.1 in
+    record {
+      received = received;
+      sent = no_messages n.sent (omega (arith, passing_is k.0, k.2, sent, ends, a, b));
+      end = no_end n.end (omega (arith, passing_is k.0, k.2, sent, ends, a, b));
+      free = free;
+    }
+
 module _ {X : Type 0} (law : EachOwedCanBeMet) (config : Config) (within : ℕ) (exchange : Exchange) (nodes : List (CodeNode X))
     (row : IsRow config within exchange (length exchange.sent.now + count_of exchange.end) nodes) where
   pub whole_of_row : IsTold exchange → HasLast exchange nodes → (e : RunEnd) × IsWhole config within exchange e
@@ -180,16 +197,7 @@ module _ {X : Type 0} (law : EachOwedCanBeMet) (config : Config) (within : ℕ) 
       let here = (row n).0 has.1 in
       let first : Node = here.0 in
       let k = from_goes_by config within (length exchange.sent.now + count_of exchange.end) first n here.2 in
-      let sent = sent_left config within k.0 first n k.1 in
-      let ends = ends_left config within k.0 first n k.1 in
-      let a = first_sent config exchange first here.1 in
-      let b = first_end config exchange first here.1 in
-      let last : IsLast n = record {
-        received = has.2;
-        sent = no_messages n.sent (omega (arith, passing_is k.0, k.2, sent, ends, a, b));
-        end = no_end n.end (omega (arith, passing_is k.0, k.2, sent, ends, a, b));
-        free = has.3;
-      } in
+      let last = last_in config within exchange n here has.2 has.3 in
       let x = reached_is_whole law config within exchange k.0 n told (first, here.1, k.1) last in
       (x.0, x.1)
 
@@ -216,7 +224,7 @@ first_explained law config within exchange told = none_explained config within e
 
 -- ---- a row that grows
 
-of_place : {X : Type 0} (exchange : Exchange) (nodes : List (CodeNode X)) (place : ℕ) (n : Node) → IsOfPlace exchange nodes place n → IsIn exchange nodes n
+pub of_place : {X : Type 0} (exchange : Exchange) (nodes : List (CodeNode X)) (place : ℕ) (n : Node) → IsOfPlace exchange nodes place n → IsIn exchange nodes n
 of_place exchange [] place n h = absurd h
 of_place exchange (x ∷ xs) zero n h = inl h
 of_place exchange (x ∷ xs) (suc place) n h = inr (of_place exchange xs place n h)

@@ -4,6 +4,7 @@ use Rattle.bgp_prefix.specs.Shown as shown
 use Rattle.bgp_prefix.specs.Shown.{ShownRecord}
 use Rattle.bgp_open.specs.declared.config.Config.{Config}
 use Rattle.bgp_machine.specs.Lists.{Has}
+use Rattle.bgp_machine.proofs.RowByRow.{each_weaker}
 use Rattle.bgp_machine.specs.Owed.{EachOwedCanBeMet}
 use Rattle.bgp_machine.specs.Run.{Begins}
 use Rattle.bgp_recording.specs.declared.message.Message.{Message}
@@ -25,11 +26,12 @@ use Rattle.bgp_orders.specs.declared.search.Turn.{Turn}
 use Rattle.bgp_orders.specs.declared.sent_place.SentPlace.{SentPlace}
 use Rattle.bgp_orders.specs.Nodes.{Node, Goes, first_node}
 use Rattle.bgp_orders.specs.Rows.{InRow, IsIn, IsOf, node_at}
-use Rattle.bgp_orders.specs.SentPlaces.{CouldBeSent, IsSentPlace, Takes}
+use Rattle.bgp_orders.specs.SentPlaces.{AreReached, CouldBeSent, IsSentPlace, Takes}
 use Rattle.bgp_orders.specs.Turns.{Saying}
 use Rattle.bgp_orders.specs.Ways.{IsWay, records_of_front}
 use Rattle.bgp_orders.proofs.Fronts.{by_front}
 use Rattle.bgp_orders.proofs.GoesOn.{walks_go_on}
+use Rattle.bgp_orders.proofs.Many.{nodes_of}
 use Rattle.bgp_orders.proofs.Reached.{IsTimed, GoesOn, build, built_way, first_timed, from_begins, to_begins}
 use Rattle.bgp_orders.proofs.Rows.{passing, passing_is, ended_last, from_goes_by, goes_by}
 use Rattle.bgp_orders.proofs.Steps.{same_first}
@@ -281,3 +283,16 @@ takes_just config within exchange octets node turn slice may s e is =
             subst (λ (v : ℕ). Next config (shown.Sent v octets) h.member h.next) there h.leads,
           ),
     )
+
+-- ---- the nodes of a place
+
+pub reached_at : {X : Type 0} (config : Config) (within : ℕ) (exchange : Exchange) (before : ℕ) (place : SentPlace X) (count : ℕ) → IsSentPlace config within exchange before place
+    → count ≡ length place.nodes.items → AreReached config within exchange before count
+reached_at config within exchange before place count is e =
+    let its = nodes_of exchange place.nodes.items is.tidy.apart is.tidy.plain in
+    record {
+      nodes = its.nodes;
+      none_twice = its.none_twice;
+      in_row = each_weaker (λ n. IsIn exchange place.nodes.items n) (λ n. InRow config within exchange before n) (λ n h. (is.row n).0 h) its.nodes its.in_it;
+      count = its.count ∙ sym e;
+    }

@@ -331,7 +331,7 @@ pub same_first : (xs : List Message) (x y : Message) → IsFirst xs x → IsFirs
 same_first [] x y h k = absurd h
 same_first (z ∷ zs) x y h k = sym h ∙ k
 
-first_of_list : (x y : Message) (left more : List Message) → x ∷ left ≡ y ∷ more → (x ≡ y) × (left ≡ more)
+pub first_of_list : (x y : Message) (left more : List Message) → x ∷ left ≡ y ∷ more → (x ≡ y) × (left ≡ more)
 first_of_list x y left more e = (cc, cc)
 
 -- the nodes of a spot, of which these are the members
@@ -408,7 +408,7 @@ says_just config within exchange spot spot2 x ms ms2 first may e leads n2 =
 abbrev pub ended_records : Exchange → Spot → End → List ShownRecord
 ended_records exchange spot e = end_records (max e.second spot.last) spot.state (are_left (drop spot.place.received exchange.received.now))
 
-some_and : (P : End → Type 0) (end : Option End) (e : End) → end ≡ Some e → P e → IsSomeAnd end P
+pub some_and : (P : End → Type 0) (end : Option End) (e : End) → end ≡ Some e → P e → IsSomeAnd end P
 some_and P end e is p = subst (λ (v : Option End). IsSomeAnd v P) (sym is) p
 
 pub ends_none : {X : Type 0} (config : Config) (within : ℕ) (exchange : Exchange) (spot : Spot) (members : List (PlainMember X)) → (MayEndNext within (pending_at exchange spot) → ⊥)
@@ -422,7 +422,7 @@ pub left_is : (ended : Bool) (end : Option End) (e : End) (P : End → Type 0) �
 left_is true end e P is h = absurd h
 left_is false end e P is h = (is, subst (λ (v : Option End). IsSomeAnd v P) is h)
 
-same_some : (x y : End) → Some x ≡ Some y → x ≡ y
+pub same_some : (x y : End) → Some x ≡ Some y → x ≡ y
 same_some x y h = cc
 
 pub ends_just : {X : Type 0} (config : Config) (within : ℕ) (exchange : Exchange) (spot spot2 : Spot) (e : End) (ms ms2 : List (PlainMember X)) → exchange.end ≡ Some e

@@ -22,7 +22,7 @@ use Rattle.bgp_orders.specs.Ways.{changed_to, received_records, sent_records, en
 
 -- ---- the records are those that tell a session
 
-change_shown : (moment : Moment) (second : ℕ) (state : State) (led : Option State) → map (λ n. n.shown) (change moment second state led) ≡ changed_to second state led
+pub change_shown : (moment : Moment) (second : ℕ) (state : State) (led : Option State) → map (λ n. n.shown) (change moment second state led) ≡ changed_to second state led
 change_shown moment second state None = refl
 change_shown moment second state (Some led) = refl
 

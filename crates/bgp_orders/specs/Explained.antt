@@ -1,6 +1,7 @@
 -- What all ways of an exchange say together: how many of its sent messages some way explains, and
 -- how the session can have ended.
 use Rattle.std.specs.Prelude.{◌≡◌, ◌<◌, ◌≤◌, ◌+◌, ◌++◌, ℕ, List, length}
+use Rattle.bgp_prefix.specs.Shown.{ShownRecord}
 use Rattle.bgp_open.specs.declared.config.Config.{Config}
 use Rattle.bgp_machine.specs.Run.{Begins, End, IsComplete}
 use Rattle.bgp_recording.specs.declared.ordering.Exchange.{Exchange}
@@ -28,6 +29,14 @@ pub record IsWhole (config : Config) (within : ℕ) (exchange : Exchange) (e : E
   pub way : IsWay within exchange start events
   pub complete : IsComplete config (records_of_way exchange.second start events) e
 
+-- no run shows just the records of a way
+abbrev pub NoneIsWhole : Config → ℕ → Exchange → Type 0
+NoneIsWhole config within exchange = (e : End) → ¬ IsWhole config within exchange e
+
+-- some run shows just these records
+abbrev pub ShowARun : Config → List ShownRecord → Type 0
+ShowARun config records = (e : End) × IsComplete config records e
+
 -- the verdict over all ways
 pub data VerdictOver : Type 0 where
   Yes : VerdictOver
@@ -46,7 +55,7 @@ HasVerdictOver config within exchange (No count) =
 -- all sent messages are explained, and no run shows just the records of a way
 HasVerdictOver config within exchange Unfinished =
     IsExplained config within exchange (length exchange.sent.now)
-    × ((e : End) → ¬ IsWhole config within exchange e)
+    × NoneIsWhole config within exchange
 
 -- ---- the laws
 

@@ -10,3 +10,4 @@ pub mod WholeWays
 pub mod SentPlaces
 pub mod Tidy
 pub mod Many
+pub mod Tracks

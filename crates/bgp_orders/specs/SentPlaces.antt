@@ -3,6 +3,7 @@
 use Rattle.std.specs.Prelude.{◌≡◌, ◌++◌, ℕ, List, [], ◌∷◌, drop, length}
 use Rattle.bgp_prefix.specs.Shown as shown
 use Rattle.bgp_open.specs.declared.config.Config.{Config}
+use Rattle.bgp_machine.specs.Lists.{Each, NoneTwice}
 use Rattle.bgp_machine.specs.Run.{Begins}
 use Rattle.bgp_recording.specs.declared.message.Message.{Message}
 use Rattle.bgp_recording.specs.declared.ordering.Exchange.{Exchange}
@@ -16,7 +17,9 @@ use Rattle.bgp_judge.specs.Next.{Next}
 use Rattle.bgp_judge.specs.Plain.{Among}
 use Rattle.bgp_orders.specs.declared.node.Node.{Node as CodeNode}
 use Rattle.bgp_orders.specs.declared.sent_place.SentPlace.{SentPlace}
-use Rattle.bgp_orders.specs.Rows.{IsRow, pending_at}
+use Rattle.bgp_orders.specs.Nodes.{Node}
+use Rattle.bgp_orders.specs.Rows.{InRow, IsRow, pending_at}
+use Rattle.bgp_orders.specs.Tidy.{IsTidy}
 use Rattle.bgp_orders.specs.Ways.{IsWay, records_of_front}
 
 -- These octets could have been sent in the place of the message behind so many sent ones, at its
@@ -47,10 +50,19 @@ pub record Takes {X : Type 0} (config : Config) (within : ℕ) (exchange : Excha
   pub next : Member
   pub leads : Next config (shown.Sent message.second octets) member next
 
--- its nodes are the row of so many sent messages
+-- its nodes are the row of so many sent messages, none of them twice
 pub record IsSentPlace {X : Type 0} (config : Config) (within : ℕ) (exchange : Exchange)
     (before : ℕ) (place : SentPlace X) : Type 0 where
   pub same_config : place.search.config ≡ config
   pub same_within : place.search.within ≡ within
   pub same_exchange : place.search.exchange ≡ exchange
   pub row : IsRow config within exchange before place.nodes.items
+  pub tidy : IsTidy exchange place.nodes.items
+
+-- so many nodes are reached with so many sent messages, no two of them equal
+pub record AreReached (config : Config) (within : ℕ) (exchange : Exchange) (before total : ℕ)
+    : Type 0 where
+  pub nodes : List Node
+  pub none_twice : NoneTwice nodes
+  pub in_row : Each (λ n. InRow config within exchange before n) nodes
+  pub count : length nodes ≡ total

@@ -1,17 +1,22 @@
 //! The entries of a way, made item by item.
 
-ghost use Rattle.std.specs.Prelude.{◌≡◌, ◌++◌, ◌∷◌, [], IfOk, IfSome, IsTrue, OnOk, map};
+ghost use Rattle.std.specs.Prelude.{◌≡◌, ◌++◌, ◌∷◌, [], IfOk, IfSome, IsSomeAnd, IsTrue, OnOk};
+ghost use Rattle.std.specs.Prelude.{map};
 ghost use Rattle.mrt.specs.Reader.{shown_of};
+ghost use Rattle.bgp_recording.specs.Captured.{records_of};
 ghost use Rattle.bgp_recording.specs.Changes.{led_by_end, led_by_left, state_then};
 ghost use Rattle.bgp_recording.specs.Tells.{change, numbered_of, numbered_with};
 ghost use Rattle.bgp_recording.specs.Told.{IsTold};
 ghost use Rattle.bgp_orders.specs.Entries.{AreOfAWay, StaysUnderWay, numbered_of_way};
+ghost use Rattle.bgp_orders.specs.Explained.{ShowARun};
+ghost use Rattle.bgp_orders.specs.Tracks.{GoesOnBy, LeadsToLast};
 ghost use Rattle.bgp_orders.specs.Turns.{first_spot};
 
 use crate::counting::may_start;
 use crate::leading::{led_by_end, led_by_left};
 use crate::node::{Spot, first_spot};
 use crate::search::{Ending, Search, Turn, state_then};
+use bgp_machine::each_owed_want_can_be_met;
 use bgp_prefix::Seconds;
 use bgp_recording::{Entry, Exchange, Moment, State};
 use mrt::Record;
@@ -122,8 +127,10 @@ impl<'a, A: Allocator> Course<'a, A> {
 
     /// Appends what the next received message shows. Returns whether it may stand next.
     fn hear(&mut self, search: &Search<'_, 'a>) -> Result<bool, AllocError>
-        ensures { IfOk result (λ may. IsTrue may
+        ensures way { IfOk result (λ may. IsTrue may
             → StaysUnderWay search.now.within search.now.exchange self.old self.new) }
+        ensures along { IfOk result (λ may. GoesOnBy search.now.config search.now.within
+            search.now.exchange Step.Receive may self.old self.new) }
     {
         let Some(turn) = search.hearing(self.spot) else {
             return Ok(false);
@@ -135,8 +142,10 @@ impl<'a, A: Allocator> Course<'a, A> {
     /// Appends what the next sent message shows, or the end if no message is left to be sent.
     /// Returns whether it may stand next.
     fn pass(&mut self, search: &Search<'_, 'a>) -> Result<bool, AllocError>
-        ensures { IfOk result (λ may. IsTrue may
+        ensures way { IfOk result (λ may. IsTrue may
             → StaysUnderWay search.now.within search.now.exchange self.old self.new) }
+        ensures along { IfOk result (λ may. GoesOnBy search.now.config search.now.within
+            search.now.exchange Step.Pass may self.old self.new) }
     {
         if let Some(turn) = search.saying(self.spot) {
             self.put_message(turn)?;
@@ -151,8 +160,10 @@ impl<'a, A: Allocator> Course<'a, A> {
 
     /// Appends what a step shows. Returns whether the step may come next.
     fn take(&mut self, search: &Search<'_, 'a>, step: Step) -> Result<bool, AllocError>
-        ensures { IfOk result (λ may. IsTrue may
+        ensures way { IfOk result (λ may. IsTrue may
             → StaysUnderWay search.now.within search.now.exchange self.old self.new) }
+        ensures along { IfOk result (λ may. GoesOnBy search.now.config search.now.within
+            search.now.exchange step may self.old self.new) }
     {
         match step {
             Step::Receive => self.hear(search),
@@ -162,16 +173,21 @@ impl<'a, A: Allocator> Course<'a, A> {
 }
 
 /// Returns the entries of the way that begins in this state and takes these steps. Returns `None`
-/// if no way does: a session may not begin so, a step may not come next, or something is left.
+/// if no way does: a session may not begin so, a step may not come next, or something is left. If
+/// they lead to a node where nothing is left and a member has shown all, they are those of a run.
 pub(crate) fn entries_along<'a, A: Allocator>(
     alloc: A,
     search: &Search<'_, 'a>,
     start: State,
     steps: &[Step],
 ) -> Result<Option<Vec<Entry<'a>, A>>, AllocError>
-    ensures { IfOk result (λ found. IfSome found (λ entries. IsTold search.now.exchange
+    ensures way { IfOk result (λ found. IfSome found (λ entries. IsTold search.now.exchange
         → AreOfAWay search.now.within search.now.exchange entries.items)) }
+    ensures run { LeadsToLast search.now.config search.now.within search.now.exchange start
+        steps.now → IfOk result (λ found. IsSomeAnd found (λ entries.
+        ShowARun search.now.config (records_of entries.items))) }
 {
+    each_owed_want_can_be_met();
     if !may_start(&search.exchange, start) {
         return Ok(None);
     }

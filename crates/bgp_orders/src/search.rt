@@ -328,7 +328,7 @@ impl<'a> Search<'_, 'a> {
 
     /// Checks whether nothing is left at a spot.
     pub(crate) fn is_done(&self, spot: Spot) -> bool
-        ensures { IsTrue result → IsDone (pending_at self.now.exchange spot) }
+        ensures { IsTrue result ↔ IsDone (pending_at self.now.exchange spot) }
     {
         !are_left(self.exchange.received, spot.place.received)
             && !are_left(self.exchange.sent, spot.place.sent)

@@ -1,6 +1,7 @@
 //! The place of a sent message, over all orders.
 
-ghost use Rattle.std.specs.Prelude.{◌≡◌, ◌≢◌, ◌↔◌, [], ℕ, IfOk, IfSome, IsTrue};
+ghost use Rattle.std.specs.Prelude.{◌≡◌, ◌≢◌, ◌↔◌, [], ℕ, IfNone, IfOk, IfSome, IsTrue};
+ghost use Rattle.std.specs.Prelude.{MatchOption, length};
 ghost use Rattle.bgp_prefix.specs.Shown.{Sent};
 ghost use Rattle.bgp_open.specs.declared.config.Config.{Config as TheConfig};
 ghost use Rattle.mrt.specs.Reader.{shown_of};
@@ -10,8 +11,10 @@ ghost use Rattle.bgp_judge.specs.Next.{Next};
 ghost use Rattle.bgp_judge.specs.Plain.{Among};
 ghost use Rattle.bgp_recording.specs.declared.ordering.Exchange.{Exchange as TheExchange};
 ghost use Rattle.bgp_recording.specs.Told.{IsTold};
+ghost use Rattle.bgp_orders.specs.Many.{AreTooMany};
 ghost use Rattle.bgp_orders.specs.Rows.{IsRow};
-ghost use Rattle.bgp_orders.specs.SentPlaces.{CouldBeSent, IsSentPlace, Takes};
+ghost use Rattle.bgp_orders.specs.SentPlaces.{AreReached, CouldBeSent, IsSentPlace, Takes};
+ghost use Rattle.bgp_orders.specs.Tidy.{IsTidy};
 
 use crate::counting::{MOST_NODES, first_row, row_after};
 use crate::node::{Node, has_any};
@@ -53,8 +56,11 @@ fn row_behind<A: Allocator + Copy>(
     search: &Search<'_, '_>,
     before: usize,
 ) -> Result<Option<Vec<Node<A>, A>>, AllocError>
-    ensures { IfOk result (λ row. IfSome row (λ nodes.
+    ensures row { IfOk result (λ row. IfSome row (λ nodes.
         IsRow search.now.config search.now.within search.now.exchange before nodes.items)) }
+    ensures many { IfOk result (λ row. MatchOption row
+        (AreTooMany search.now.config search.now.within search.now.exchange)
+        (λ nodes. IsTidy search.now.exchange nodes.items)) }
 {
     let Some(mut row) = first_row(alloc, search, MOST_NODES)? else {
         return Ok(None);
@@ -75,7 +81,7 @@ fn row_behind<A: Allocator + Copy>(
 /// so many seconds after it came.
 ///
 /// Takes the time and memory of [`explained_count`](crate::explained_count) up to there. Returns
-/// `None` if there are more nodes than [`MOST_NODES`], and `AllocError` if memory is refused.
+/// `None` if more nodes than [`MOST_NODES`] are reached, and `AllocError` if memory is refused.
 pub fn place_of_sent<'l, 'a, A: Allocator + Copy>(
     alloc: A,
     config: &Config,
@@ -83,8 +89,10 @@ pub fn place_of_sent<'l, 'a, A: Allocator + Copy>(
     within: u16,
     before: usize,
 ) -> Result<Option<SentPlace<'l, 'a, A>>, AllocError>
-    ensures { IfOk result (λ found. IfSome found (λ place.
+    ensures place { IfOk result (λ found. IfSome found (λ place.
         IsSentPlace config.now within exchange.now before place)) }
+    ensures many { IfOk result (λ found. IfNone found
+        (AreTooMany config.now within exchange.now)) }
 {
     let search = Search {
         config: *config,
@@ -103,7 +111,12 @@ pub fn place_of_sent<'l, 'a, A: Allocator + Copy>(
 
 impl<A: Allocator + Copy> SentPlace<'_, '_, A> {
     /// Returns how many nodes there are.
-    pub fn node_count(&self) -> usize {
+    pub fn node_count(&self) -> usize
+        ensures count { result ≡ length self.now.nodes.items }
+        ensures reached { (config : TheConfig) (within : ℕ) (exchange : TheExchange) (before : ℕ)
+            → IsSentPlace config within exchange before self.now
+            → AreReached config within exchange before result }
+    {
         self.nodes.len()
     }
 

@@ -1,6 +1,6 @@
 //! The entries of a whole way, of an exchange and over a connection.
 
-ghost use Rattle.std.specs.Prelude.{◌≡◌, IfOk, IfSome, map};
+ghost use Rattle.std.specs.Prelude.{◌≡◌, IfNone, IfOk, IfSome, map};
 ghost use Rattle.mrt.specs.Reader.{shown_of};
 ghost use Rattle.bgp_machine.specs.Run.{End as TheEnd, IsComplete};
 ghost use Rattle.bgp_recording.specs.Captured.{records_of};
@@ -8,8 +8,9 @@ ghost use Rattle.bgp_recording.specs.Gathered.{IsClocked, IsCovered};
 ghost use Rattle.bgp_recording.specs.Told.{IsTold};
 ghost use Rattle.bgp_orders.specs.Entries.{AreOfAWay};
 ghost use Rattle.bgp_orders.specs.Entries.{EntriesShowTheWay, RunsOfEntriesAreWhole};
-ghost use Rattle.bgp_orders.specs.Explained.{IsWhole};
-ghost use Rattle.bgp_orders.specs.WholeWays.{AreOfAWayOver, CanHaveEnded};
+ghost use Rattle.bgp_orders.specs.Explained.{IsWhole, ShowARun};
+ghost use Rattle.bgp_orders.specs.Tracks.{NoneIsFound};
+ghost use Rattle.bgp_orders.specs.WholeWays.{AreOfAWayOver, CanHaveEnded, NoneIsFoundOver};
 
 use crate::course::entries_along;
 use crate::search::Search;
@@ -21,11 +22,11 @@ use std::alloc::{AllocError, Allocator};
 use streams::Connection;
 
 /// Returns the entries of a way for which [`explained_count`](crate::explained_count) says that it
-/// is whole: the records of the way, each with the packet that shows it. Whether a run shows just
-/// these records, and how it ends, the judge says of them; as it ends the session can have ended.
+/// is whole: the records of the way, each with the packet that shows it. Some run shows just these
+/// records. How it ends the judge says of them; as it ends the session can have ended.
 ///
-/// Returns `None` if no way is whole, or if there are more nodes than
-/// [`MOST_NODES`](crate::MOST_NODES), and `AllocError` if memory is refused.
+/// Returns `None` only if no way is whole, or if more nodes than
+/// [`MOST_NODES`](crate::MOST_NODES) are reached, and `AllocError` if memory is refused.
 pub fn entries_of_whole_way<'a, A: Allocator + Copy>(
     alloc: A,
     config: &Config,
@@ -37,6 +38,10 @@ pub fn entries_of_whole_way<'a, A: Allocator + Copy>(
     ensures ends { IfOk result (λ found. IfSome found (λ entries. IsTold exchange.now
         → (e : TheEnd) → IsComplete config.now (records_of entries.items) e
         → IsWhole config.now within exchange.now e)) }
+    ensures run { IfOk result (λ found. IfSome found (λ entries.
+        ShowARun config.now (records_of entries.items))) }
+    ensures none { IfOk result (λ found. IfNone found
+        (NoneIsFound config.now within exchange.now)) }
 {
     runs_of_entries_are_whole();
     let search = Search {
@@ -67,10 +72,11 @@ fn records_of<'a, A: Allocator>(
 /// Returns the records of a whole way of a connection's messages, if
 /// [`verdict_over_orders`](crate::verdict_over_orders) is a yes: as
 /// [`make_records`](bgp_recording::make_records) has those of the made order, and with the same
-/// that is left of the streams. The messages of either direction are framed by its rules.
+/// that is left of the streams. The messages of either direction are framed by its rules. Some run
+/// shows just these records.
 ///
-/// Returns `None` if no way is whole, or if there are more nodes than
-/// [`MOST_NODES`](crate::MOST_NODES), and `AllocError` if memory is refused.
+/// Returns `None` only if no way is whole, or if more nodes than
+/// [`MOST_NODES`](crate::MOST_NODES) are reached, and `AllocError` if memory is refused.
 pub fn record_whole_way<'a, A: Allocator + Copy>(
     alloc: A,
     config: &Config,
@@ -88,6 +94,10 @@ pub fn record_whole_way<'a, A: Allocator + Copy>(
     ensures ends { IfOk result (λ found. IfSome found (λ made. IsClocked connection.now
         → (e : TheEnd) → IsComplete config.now (map shown_of made.records.items) e
         → CanHaveEnded config.now within framings connection.now e)) }
+    ensures run { IfOk result (λ found. IfSome found (λ made.
+        ShowARun config.now (map shown_of made.records.items))) }
+    ensures none { IfOk result (λ found. IfNone found
+        (NoneIsFoundOver config.now within framings connection.now)) }
 {
     let framed = frame_connection(alloc, connection, framings)?;
     let exchange = framed.exchange(connection);

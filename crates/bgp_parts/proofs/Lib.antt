@@ -8,3 +8,4 @@ pub mod Withdrawals
 pub mod ReadableOpen
 pub mod OneOwnOpen
 mod ConfederationPaths
+pub use Rattle.bgp_reason.proofs.OneForAll

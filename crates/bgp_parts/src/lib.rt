@@ -25,6 +25,7 @@ mod update;
 mod withdrawal;
 
 pub use attribute::AttributeFault;
+pub use bgp_reason::{FsmErrors, Possible, States, Told};
 pub use both_offers::settle_something;
 pub use confederations::{has_confederation, shows_confederation, some_show_confederations};
 pub use laws::{

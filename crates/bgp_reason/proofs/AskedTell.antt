@@ -20,9 +20,9 @@ use Rattle.bgp_open.specs.OwnOpen.{IsOwnOpen, own_fields}
 use Rattle.bgp_open.specs.Written.{notification_octets, open_octets}
 use Rattle.bgp_open.proofs.OwnOpens.{is_frame, octets-own_open, own_open}
 use Rattle.bgp_open.proofs.WrittenNotification.{notification_frame, written_notification}
-use Rattle.bgp_update.specs.declared.subcodes.Subcodes.{Subcodes}
-use Rattle.bgp_update.specs.Laws.{HasCleanUpdate, empty_update}
-use Rattle.bgp_update.specs.Subcodes.{HasSubcode, marks_of}
+use Rattle.bgp_machine.specs.DeclaredSubcodes.{Subcodes}
+use Rattle.bgp_machine.specs.Laws.{HasCleanUpdate, empty_update}
+use Rattle.bgp_machine.specs.Subcodes.{HasSubcode, marks_of}
 use Rattle.bgp_machine.specs.declared.fsm.Fsm.{Fsm}
 use Rattle.bgp_machine.specs.declared.want.FaultSet.TheVariants as sets
 use Rattle.bgp_machine.specs.declared.want.Unexpected.{Unexpected}

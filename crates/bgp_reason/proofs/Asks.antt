@@ -3,7 +3,7 @@ use Rattle.std.proofs.Common.{◌≡◌, ◌↔◌, ℕ, IsTrue, List, [], ◌++
 use Rattle.byteorder.specs.Endian.{big_bytes}
 use Rattle.bgp_wire.specs.Header.{header_octets}
 use Rattle.bgp_wire.specs.Message.{message_octets}
-use Rattle.bgp_update.specs.Laws.{empty_update}
+use Rattle.bgp_machine.specs.Laws.{empty_update}
 use Rattle.bgp_machine.specs.declared.fsm.Fsm.{Fsm}
 use Rattle.bgp_machine.specs.declared.fsm.Fsm.TheVariants as fsms
 use Rattle.bgp_reason.specs.declared.kinds.States.{States}

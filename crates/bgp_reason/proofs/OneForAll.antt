@@ -13,7 +13,7 @@ use Rattle.bgp_open.specs.declared.link.Link.{Link}
 use Rattle.bgp_open.specs.declared.subcodes.OpenSubcodes.{OpenSubcodes}
 use Rattle.bgp_open.specs.Notification.{IsNotification}
 use Rattle.bgp_open.specs.OpenSubcodes.{Names as NamesOpen}
-use Rattle.bgp_update.specs.Subcodes.{HasSubcode}
+use Rattle.bgp_machine.specs.Subcodes.{HasSubcode}
 use Rattle.bgp_machine.specs.declared.fsm.Fsm.{Fsm}
 use Rattle.bgp_machine.specs.declared.hearing.Heard.{Heard}
 use Rattle.bgp_machine.specs.declared.hearing.Heard.TheVariants as heard

@@ -7,9 +7,9 @@ use Rattle.bgp_wire.specs.Verdict.{AreEachFault}
 use Rattle.bgp_open.specs.declared.config.Config.{Config}
 use Rattle.bgp_open.specs.declared.families.Families.{Families}
 use Rattle.bgp_open.specs.declared.link.Link.{Link}
-use Rattle.bgp_update.specs.declared.subcodes.Subcodes.{Subcodes}
-use Rattle.bgp_update.specs.Changes.{RouteChanges}
-use Rattle.bgp_update.specs.Outcome.{IsOutcome, Applied}
+use Rattle.bgp_machine.specs.DeclaredSubcodes.{Subcodes}
+use Rattle.bgp_machine.specs.Changes.{RouteChanges}
+use Rattle.bgp_machine.specs.Outcome.{IsOutcome, Applied}
 use Rattle.bgp_machine.specs.declared.fsm.Fsm.{Fsm}
 use Rattle.bgp_machine.specs.declared.fsm.Fsm.TheVariants as fsms
 use Rattle.bgp_machine.specs.declared.hearing.Heard.{Heard}

@@ -10,8 +10,8 @@ use Rattle.bgp_open.specs.declared.config.Config.{Config}
 use Rattle.bgp_open.specs.declared.subcodes.OpenSubcodes.{OpenSubcodes}
 use Rattle.bgp_open.specs.OwnOpen.{own_fields}
 use Rattle.bgp_open.specs.Written.{notification_octets, open_octets}
-use Rattle.bgp_update.specs.declared.subcodes.Subcodes.{Subcodes}
-use Rattle.bgp_update.specs.Laws.{empty_update}
+use Rattle.bgp_machine.specs.DeclaredSubcodes.{Subcodes}
+use Rattle.bgp_machine.specs.Laws.{empty_update}
 use Rattle.bgp_machine.specs.declared.fsm.Fsm.{Fsm}
 use Rattle.bgp_machine.specs.State.{number_of}
 use Rattle.bgp_judge.specs.Told.{told}

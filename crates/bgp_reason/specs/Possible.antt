@@ -9,8 +9,8 @@ use Rattle.bgp_open.specs.declared.config.Config.{Config}
 use Rattle.bgp_open.specs.declared.link.Link.{Link}
 use Rattle.bgp_open.specs.OpenSubcodes.{Names as NamesOpenError}
 use Rattle.bgp_open.specs.OwnOpen.{IsOwnOpen}
-use Rattle.bgp_update.specs.Clean.{IsClean}
-use Rattle.bgp_update.specs.Subcodes.{HasSubcode}
+use Rattle.bgp_machine.specs.Clean.{IsClean}
+use Rattle.bgp_machine.specs.Subcodes.{HasSubcode}
 use Rattle.bgp_machine.specs.declared.fsm.Fsm.{Fsm}
 use Rattle.bgp_machine.specs.declared.fsm.Fsm.TheVariants as fsms
 use Rattle.bgp_machine.specs.State.{number_of}

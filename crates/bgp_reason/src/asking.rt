@@ -11,7 +11,7 @@ ghost use Rattle.bgp_wire.specs.Message.{message_octets};
 ghost use Rattle.bgp_open.specs.declared.config.Config.{Config as TheConfig};
 ghost use Rattle.bgp_open.specs.OwnOpen.{own_fields};
 ghost use Rattle.bgp_open.specs.Written.{notification_octets, open_octets};
-ghost use Rattle.bgp_update.specs.Laws.{empty_update};
+ghost use Rattle.bgp_machine.specs.Laws.{empty_update};
 ghost use Rattle.bgp_machine.specs.State.{number_of};
 ghost use Rattle.bgp_judge.specs.Told.{told};
 ghost use Rattle.bgp_reason.specs.Asked.{AreAsked, AreChanges, AreFsmErrors, AreHeaderErrors};
@@ -23,18 +23,16 @@ ghost use Rattle.bgp_reason.specs.Told.{last_message};
 
 use crate::kinds::{FsmErrors, Possible, States};
 use crate::laws::{hold_timer_expires_from_then_on, one_record_of_each_kind_tells_all};
-use bgp_judge::Tracker;
-use bgp_machine::Fsm;
+use bgp_judge::{Record, Tracker};
+use bgp_machine::{Fsm, Subcodes};
 use bgp_open::{
     Config, Notification, NotificationWriteFault, OpenSubcodes, write_notification, write_own_open,
 };
 use bgp_prefix::Seconds;
-use bgp_update::Subcodes;
 use bgp_wire::{
     ErrorCode, HeaderFaults, MessageType, header_at, put_header, put_keepalive, put_u16, read_type,
 };
 use byteorder::{BigEndian, ByteOrder};
-use mrt::Record;
 use std::alloc::{AllocError, Allocator};
 
 /// How many octets an UPDATE without contents has: header 19, and the two lengths 2 each.

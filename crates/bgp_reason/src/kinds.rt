@@ -1,9 +1,8 @@
 //! What may follow a session's records.
 
-use bgp_machine::Fsm;
+use bgp_machine::{Fsm, Subcodes};
 use bgp_open::OpenSubcodes;
 use bgp_prefix::Seconds;
-use bgp_update::Subcodes;
 use bgp_wire::HeaderFaults;
 
 /// A set of states.

@@ -7,9 +7,8 @@ ghost use Rattle.bgp_reason.specs.Reasons.{MessageWhereARunEnds, NoHasAReason};
 ghost use Rattle.bgp_reason.specs.Reasons.{OwedWhereUnfinished, SomethingMayFollow};
 ghost use Rattle.bgp_reason.specs.Told.{ToldOneMore, ToldStateIsTold};
 
-use bgp_machine::{each_owed_want_can_be_met, hear};
+use bgp_machine::{each_owed_want_can_be_met, empty_is_clean, hear, read_update, some_outcome};
 use bgp_open::{Config, Link};
-use bgp_update::{empty_is_clean, read_update, some_outcome};
 use std::alloc::Allocator;
 
 /// What is so of one record of each kind tells all that may follow, and nothing else.

@@ -1,13 +1,13 @@
 //! What a session's records tell, with the numbers of the records.
 
 ghost use Rattle.std.specs.Prelude.{◌≡◌};
-ghost use Rattle.mrt.specs.Reader.{shown_of};
+ghost use Rattle.bgp_judge.specs.Reader.{shown_of};
 ghost use Rattle.bgp_machine.specs.Going.{fsm_at};
 ghost use Rattle.bgp_reason.specs.Told.{nothing_told, told_by_change, told_by_message};
 ghost use Rattle.bgp_reason.specs.Told.{told_with};
 
+use bgp_judge::Record;
 use bgp_machine::Fsm;
-use mrt::Record;
 
 /// What a session's records tell. Their numbers count from 1.
 #[derive(Clone, Copy, Debug, PartialEq, Eq)]

@@ -67,8 +67,8 @@ change moment second state (Some led) =
 
 -- The records of an order from a state on, each with its packet: the messages, and right after each
 -- message and the end the changes to which it leads, with its packet and at its second in the
--- order, which may be later than the packet's. The end itself has none. `before` is what stands just
--- before.
+-- order, which may be later than the packet's. The end itself has none. `before` is what stands
+-- just before.
 abbrev pub numbered_in : State → Before → List Event → List Numbered
 numbered_in state before [] = []
 numbered_in state before (Passed second (Received m) ∷ later) =
@@ -93,9 +93,9 @@ abbrev pub opening : Side → Moment → Numbered
 opening opened_by first =
     numbered_with first (shown.Changed first.second 1 (state_number (opened_state opened_by)))
 
--- These records tell what packets tell of a session whose connection this side opened, by this first
--- packet: after the opening they are those of an order that is allowed where a message is handled so
--- many seconds after it came at the latest.
+-- These records tell what packets tell of a session whose connection this side opened, by this
+-- first packet: after the opening they are those of an order that is allowed where a message is
+-- handled so many seconds after it came at the latest.
 pub record Tells
     (within : ℕ) (opened_by : Side) (first : Moment) (received sent : List Message)
     (end : Option End) (numbered : List Numbered) : Type 0 where

@@ -78,9 +78,9 @@ pub record IsYesOver (config : Config) (within : ℕ) (framings : Framings)
   pub is : HasVerdict config (records_of entries) (Yes ends)
 
 -- All orders of the connection's messages that the packets allow say nothing that is told in place
--- of this verdict, which is no yes: it isn't known what they say, for too many nodes; or the verdict
--- is unfinished, and no order is whole; or some order is whole. In this last case the records of
--- such an order are judged, and nothing is found only if that is no yes.
+-- of this verdict, which is no yes: it isn't known what they say, for too many nodes; or the
+-- verdict is unfinished, and no order is whole; or some order is whole. In this last case the
+-- records of such an order are judged, and nothing is found only if that is no yes.
 abbrev pub IsNothingOver : Config → ℕ → Framings → Connection → VerdictValue → Type 0
 IsNothingOver config within framings connection verdict =
     IsOverOrders config within framings connection over.TooMany
@@ -139,17 +139,17 @@ module _ (config : Config) (wanted : Import) (packets : List Recorded) (segments
       pub yes : IsYesOver config wanted.within (framings_of wanted.selection.session) connection
           entries ends
 
-    -- Over all orders of the connection with this number, or of the only one, that the packets allow
-    -- within the patience it is unfinished.
+    -- Over all orders of the connection with this number, or of the only one, that the packets
+    -- allow within the patience it is unfinished.
     pub record IsUnfinishedByAll (number : Option ℕ) : Type 0 where
       pub connection : Connection
       pub chosen : IsAnswered number (length packets) (numbered (reverse segments)) connection
       pub over_all : IsOverOrders config wanted.within (framings_of wanted.selection.session)
           connection over.Unfinished
 
-    -- The connection with this number, or the only one, isn't searched for anything else, since this
-    -- verdict on its made records is a yes. Or all of its orders that the packets allow within the
-    -- patience say nothing else. Or there is no such connection.
+    -- The connection with this number, or the only one, isn't searched for anything else, since
+    -- this verdict on its made records is a yes. Or all of its orders that the packets allow within
+    -- the patience say nothing else. Or there is no such connection.
     pub record IsNothingOf (number : Option ℕ) (verdict : VerdictValue) : Type 0 where
       pub connection : Connection
       pub chosen : IsAnswered number (length packets) (numbered (reverse segments)) connection

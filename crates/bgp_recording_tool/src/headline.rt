@@ -29,9 +29,10 @@ use std::alloc::Allocator;
 /// allow are searched. If another is a yes, that yes is reported, and a remark says so. A no over
 /// all is reported by the packet of a sent message ([`a_no_at_a_packet_is_by_no_order`]). If some
 /// order explains all that was sent and none is a yes, unfinished is reported
-/// ([`what_is_unfinished_is_so`]). If there are too many to be searched, the verdict on the made order
-/// is reported: a no by its record, which is about this one order, and another may be a yes. By [`import_and_judge_agree`] the capture that is imported has the verdict
-/// of the made order from [`judge_capture`](bgp_tool::judge_capture).
+/// ([`what_is_unfinished_is_so`]). If there are too many to be searched, the verdict on the made
+/// order is reported: a no by its record, which is about this one order, and another may be a yes.
+/// By [`import_and_judge_agree`] the capture that is imported has the verdict of the made order
+/// from [`judge_capture`](bgp_tool::judge_capture).
 ///
 /// It judges the connection that is named, or the only one; where there are several and none is
 /// named, each, under a line that names it. It writes the text of each verdict, or `recording
@@ -162,11 +163,11 @@ pub fn a_no_at_a_packet_is_by_no_order()
 
 /// Law: what an unfinished is worth.
 ///
-/// If what is printed of a connection begins with `unfinished`, its made records are unfinished, and
-/// no other order is a yes, or it isn't known, for too many nodes; the records of an order that is
-/// whole by the search are judged, and aren't a yes. Or some order that the packets allow explains all that was sent, and no run of the session machine
-/// shows just the records of any of these orders under this configuration, whichever state the
-/// session begins in.
+/// If what is printed of a connection begins with `unfinished`, its made records are unfinished,
+/// and no other order is a yes, or it isn't known, for too many nodes; the records of an order that
+/// is whole by the search are judged, and aren't a yes. Or some order that the packets allow
+/// explains all that was sent, and no run of the session machine shows just the records of any of
+/// these orders under this configuration, whichever state the session begins in.
 pub fn what_is_unfinished_is_so()
     ensures { UnfinishedIsSo }
 {}

@@ -1,2 +1,4 @@
 mod Memory
+mod InLadders
+mod Heard
 mod Written

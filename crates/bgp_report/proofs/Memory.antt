@@ -1,22 +1,28 @@
 -- What a sink that never fails took of what is printed is a text in memory.
 use Rattle.std.proofs.Common.{◌≡◌, ◌+◌, ℕ, Bool, List, [], Option, arith, inl, inr, refl, subst, sym}
 use Rattle.bgp_tool.specs.Answer.{IsWritten}
-use Rattle.bgp_check_lines.specs.Printed.{IsWrittenIn}
+use Rattle.bgp_check_capture_tool.specs.CheckLinesPrinted.{IsWrittenIn}
 use Rattle.bgp_verdict_lines.specs.declared.form.VerdictForm.{VerdictForm}
 use Rattle.bgp_verdict_lines.specs.declared.form.VerdictForm.TheVariants as forms
 use Rattle.packets.specs.Packet.{Recorded}
 use Rattle.mrt.specs.declared.fault.CaptureFault.{CaptureFault}
 use Rattle.bgp_import.specs.declared.cut_short.CutShort.{CutShort}
 use Rattle.bgp_import.specs.declared.refusal.Refusal.{Refusal}
+use Rattle.bgp_import.specs.declared.talks.Talks.{Talks}
+use Rattle.bgp_html.specs.Pieces.{Piece}
 use Rattle.bgp_check_tool.specs.Blocks.{Block}
-use Rattle.bgp_check_tool.specs.Checking.{ChecksRecording}
+use Rattle.bgp_check_tool.specs.Checking.{ChecksMarked}
+use Rattle.bgp_check_tool.specs.Marks.{marks_of}
 use Rattle.bgp_check_tool.specs.Printed.{PrintsTrue}
 use Rattle.bgp_check_tool.specs.declared.nothing.NothingJudged.{NothingJudged}
+use Rattle.bgp_check_tool.specs.declared.marks.Marks.{Marks}
 use Rattle.bgp_check_tool.specs.declared.options.CheckOptions.{CheckOptions}
 use Rattle.bgp_check_capture_tool.specs.Checking.{ChecksCapture}
 use Rattle.bgp_check_capture_tool.specs.Printed.{PrintsTrueNoes}
 use Rattle.bgp_check_capture_tool.specs.declared.nothing.NothingJudged.{NothingJudged as NoneJudged}
 use Rattle.bgp_check_capture_tool.specs.declared.options.CaptureOptions.{CaptureOptions}
+use Rattle.bgp_report.specs.Ladders.{AreBehind}
+use Rattle.bgp_report.specs.Report.{ChecksWithLadders}
 use Rattle.bgp_report.specs.Report.{TakesText, never_fails}
 
 module _ {T : Type 0} (takes : T → T → List ℕ → Type 0) (from to : T) where
@@ -71,35 +77,41 @@ module _ {T : Type 0} (takes : T → T → List ℕ → Type 0) (from to : T) wh
           },
         )
 
-    pub checked_of : (options : CheckOptions) (cut : Option CutShort) (firsts : List (Option Refusal)) (refusal : Option Refusal) (nothing : Option NothingJudged)
-        → ChecksRecording gives has_ended takes source_failures (λ (a : T). 0) options source source' from to status cut firsts refusal nothing
-        → options.form ≡ forms.Text
-        → InMemory (λ written. ChecksRecording gives has_ended TakesText source_failures never_fails options source source' [] written status cut firsts refusal nothing)
-    checked_of options cut firsts refusal nothing p is =
-        let wrote = written_in options.form is _ _ status p.written in (
+    -- with ladders after it
+    pub laddered_of : {Y : Type 0} (options : CheckOptions) (cut : Option CutShort) (firsts : List (Option Refusal)) (refusal : Option Refusal) (nothing : Option NothingJudged)
+        (talks : Talks Y) (marks marks' : Marks Y) (behind : List Piece)
+        → (p : ChecksMarked gives has_ended takes source_failures (λ (a : T). 0) options source source' from to status cut firsts refusal nothing talks marks marks')
+        → options.form ≡ forms.Text → AreBehind options.port options.within p.checks.packets (marks_of options.printing p.checks.blocks) behind
+        → InMemory (λ written. ChecksWithLadders gives has_ended source_failures options source source' cut firsts refusal nothing written status behind)
+    laddered_of options cut firsts refusal nothing talks marks marks' behind p is are =
+        let q = p.checks in
+        let wrote = written_in options.form is _ _ status q.written in (
           wrote.0,
           wrote.1,
           record {
-            packets = p.packets;
-            short = p.short;
-            stopped = p.stopped;
-            read = p.read;
-            counted = p.counted;
-            is_cut_short = p.is_cut_short;
-            lacking = p.lacking;
-            lacks = p.lacks;
-            is_refusal = p.is_refusal;
-            blocks = p.blocks;
-            told = p.told;
-            rise = p.rise;
-            none = p.none;
-            some = p.some;
-            all = p.all;
-            tally = p.tally;
-            counts = p.counts;
-            are_firsts = p.are_firsts;
-            is_nothing = p.is_nothing;
-            written = wrote.2;
+            checks = record {
+              packets = q.packets;
+              short = q.short;
+              stopped = q.stopped;
+              read = q.read;
+              counted = q.counted;
+              is_cut_short = q.is_cut_short;
+              lacking = q.lacking;
+              lacks = q.lacks;
+              is_refusal = q.is_refusal;
+              blocks = q.blocks;
+              told = q.told;
+              rise = q.rise;
+              none = q.none;
+              some = q.some;
+              all = q.all;
+              tally = q.tally;
+              counts = q.counts;
+              are_firsts = q.are_firsts;
+              is_nothing = q.is_nothing;
+              written = wrote.2;
+            };
+            ladders = are;
           },
         )
 

@@ -1,4 +1,7 @@
 pub mod Options
+pub mod Pieces
 pub mod Recordings
 pub mod Captures
+pub mod Ladders
+pub mod Drawn
 pub mod Report

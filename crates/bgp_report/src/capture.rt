@@ -3,12 +3,11 @@
 ghost use Rattle.std.specs.Prelude.{◌≡◌, ◌<◌, [], List, ℕ};
 ghost use Rattle.bgp_check_capture_tool.specs.Checking.{ChecksCapture};
 ghost use Rattle.bgp_check_capture_tool.specs.Printed.{PrintsTrueNoes};
-ghost use Rattle.bgp_report.specs.Report.{Reports, TakesText, never_fails};
-ghost use Rattle.bgp_report.specs.Report.{capture_options};
+ghost use Rattle.bgp_report.specs.Report.{Alone, Reports, TakesText, capture_options};
+ghost use Rattle.bgp_report.specs.Report.{never_fails};
 
 use crate::handing::handed_over;
-use bgp_check_capture_tool::{CaptureOptions, CheckedCapture, check_capture};
-use bgp_check_text::{Printing, Settings};
+use bgp_check_capture_tool::{CaptureOptions, CheckedCapture, Printing, Settings, check_capture};
 use bgp_html::Report;
 use bgp_judge::Tracker;
 use bgp_verdict_lines::VerdictForm;
@@ -43,21 +42,22 @@ pub fn report_capture<A: Allocator + Copy, T: Tracker<A>, R: Source, W: Sink>(
 ) -> CheckedCapture
     requires source { R.failures source.old < u64.MAX }
     requires sink { W.failures sink.old < u64.MAX }
-    ensures no { Reports W.takes W.failures name.now (λ (text : List ℕ) (code : ℕ).
+    ensures no { Reports W.takes W.failures name.now (Alone (λ (text : List ℕ) (code : ℕ).
         PrintsTrueNoes R.gives R.has_ended TakesText never_fails (capture_options options.now)
-        source.old source.new [] text code result.fault) sink.old sink.new result.status }
-    ensures all { Reports W.takes W.failures name.now (λ (text : List ℕ) (code : ℕ).
+        source.old source.new [] text code result.fault)) sink.old sink.new result.status }
+    ensures all { Reports W.takes W.failures name.now (Alone (λ (text : List ℕ) (code : ℕ).
         ChecksCapture R.gives R.has_ended TakesText R.failures never_fails
         (capture_options options.now) source.old source.new [] text code result.refusals.items
-        result.sessions result.fault result.nothing) sink.old sink.new result.status }
+        result.sessions result.fault result.nothing)) sink.old sink.new result.status }
 {
     let options = capture_options(options);
     let mut report = Report::new(sink);
     report.put_head(name.as_bytes());
     let mut checked = check_capture::<A, T, R, _>(alloc, &options, source, &mut report);
     report.end();
-    checked.status = handed_over(&mut report, checked.status);
+    let mut lines = report.into_lines();
+    checked.status = handed_over(&mut lines, checked.status);
     // No effect: it ends the loan of the sink.
-    report.into_sink();
+    lines.into_sink();
     checked
 }

@@ -4,7 +4,8 @@
 //! the file, and then each line that `bgp check --routes --settings` prints, in an element of its
 //! own. What is printed, and with which status, is what [`check_recording`] and [`check_capture`]
 //! promise of a text in memory; bgp_html's laws say that a report has just these lines, and no
-//! markup but its own.
+//! markup but its own. After the text of a recording stand the records of each end that is judged,
+//! as bgp_ladder puts them.
 //!
 //! ```text
 //! let checked = report_recording::<_, CompactTracker<_>, _, _>(
@@ -18,14 +19,16 @@
 
 mod capture;
 mod handing;
+mod ladder;
+mod ladders;
+mod names;
 mod recording;
 
 // What `check` prints as text and in JSON is passed on, so that who prints a file in any form needs
 // this crate alone.
 pub use bgp_check_capture_tool::{
-    CaptureOptions, CheckedCapture, NothingJudged as NoCaptureJudged, check_capture,
+    CaptureOptions, CheckedCapture, NothingJudged as NoCaptureJudged, Printing, check_capture,
 };
-pub use bgp_check_text::Printing;
 pub use bgp_check_tool::{
     CheckOptions, CheckedRecording, NothingJudged as NoRecordingJudged, Settings, check_recording,
 };

@@ -11,8 +11,8 @@ use Rattle.std.specs.Ordering.{is_eq, nat_cmp, on, ordering_then}
 use Rattle.bgp_prefix.specs.declared.family.Family.{Family}
 use Rattle.bgp_prefix.specs.declared.family.Family.TheVariants.{V4, V6}
 use Rattle.bgp_prefix.specs.PrefixOrder.{prefix_cmp, prefix_eq}
-use Rattle.bgp_open.specs.declared.families.Families.{Families}
-use Rattle.bgp_open.specs.Families.{contains}
+use Rattle.bgp_update.specs.DeclaredFamilies.{Families}
+use Rattle.bgp_update.specs.Families.{contains}
 use Rattle.bgp_update.specs.declared.destination.Destination.{Destination}
 use Rattle.bgp_rib.specs.DestinationOrder.{destination_cmp, destination_eq}
 use Rattle.bgp_rib.specs.declared.keys.Identified.{Identified}

@@ -9,3 +9,4 @@ pub mod SameTables
 pub mod Turns
 pub mod Undoing
 pub mod UpdateLaws
+pub use Rattle.bgp_update.proofs.OneOutcome

@@ -13,8 +13,8 @@ use Rattle.std.specs.Ordering.{eq_by_cmp}
 use Rattle.std.specs.Set.{is_member}
 use Rattle.bgp_update.specs.declared.destination.Destination.{Destination}
 use Rattle.bgp_rib.specs.DestinationOrder.{destination_cmp, destination_eq}
-use Rattle.bgp_open.specs.declared.families.Families.{Families}
-use Rattle.bgp_open.specs.Families.{contains, union}
+use Rattle.bgp_update.specs.DeclaredFamilies.{Families}
+use Rattle.bgp_update.specs.Families.{contains, union}
 use Rattle.bgp_path.specs.Path.{PathValue}
 use Rattle.bgp_path.specs.SamePathLaws.{same_value_decides}
 use Rattle.bgp_update.specs.Changes.{RouteChanges}

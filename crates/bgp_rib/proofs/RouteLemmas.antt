@@ -11,8 +11,8 @@ use Rattle.bgp_rib.specs.DestinationOrder.{destination_cmp, destination_eq}
 use Rattle.bgp_prefix.specs.declared.family.Family.{Family}
 use Rattle.bgp_prefix.specs.declared.family.Family.TheVariants.{V4, V6}
 use Rattle.bgp_update.specs.declared.destination.Destination.{Destination}
-use Rattle.bgp_open.specs.declared.families.Families.{Families}
-use Rattle.bgp_open.specs.Families.{contains, union}
+use Rattle.bgp_update.specs.DeclaredFamilies.{Families}
+use Rattle.bgp_update.specs.Families.{contains, union}
 use Rattle.bgp_path.specs.Path.{PathValue}
 use Rattle.bgp_update.specs.Changes.{Route, RouteChanges, routes_with}
 use Rattle.bgp_rib.specs.Routes.{entries_outside, entries_with, entries_without, entry_of, only, AreOutside, AreRoutes, routes_after, routes_without}

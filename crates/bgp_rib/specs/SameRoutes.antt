@@ -7,7 +7,7 @@ use Rattle.std.specs.Cmp.{and_equiv, on_equiv, bool_eq_equiv, nat_eq_equiv}
 use Rattle.std.specs.Cmp.Lexicographic.{pointwise, lists_equiv}
 use Rattle.bgp_prefix.specs.Prefix.{prefix_length}
 use Rattle.bgp_prefix.specs.PrefixOrder.{prefix_eq, family_rank, prefix_number}
-use Rattle.bgp_open.specs.declared.families.Families.{Families}
+use Rattle.bgp_update.specs.DeclaredFamilies.{Families}
 use Rattle.bgp_path.specs.Path.{PathValue}
 use Rattle.bgp_path.specs.SamePath.{same_value}
 use Rattle.bgp_path.specs.SamePathLaws.{same_value_equiv}

@@ -1,7 +1,7 @@
 -- UPDATEs that are applied one after another (RFC 4271, 3.2 and 9; RFC 7606, 2).
 use Rattle.std.specs.Prelude.{List, [], ◌∷◌, Option, flat_map}
 use Rattle.bgp_update.specs.declared.destination.Destination.{Destination}
-use Rattle.bgp_open.specs.declared.families.Families.{Families}
+use Rattle.bgp_update.specs.DeclaredFamilies.{Families}
 use Rattle.bgp_path.specs.Path.{PathValue}
 use Rattle.bgp_update.specs.Allowed.{changes_value}
 use Rattle.bgp_update.specs.Changes.{RouteChanges}

@@ -15,9 +15,8 @@ ghost use Rattle.bgp_rib.specs.Routes.{
 
 use crate::table::Table;
 use crate::writing::{Log, hide_all, remove_all, sweep_all, undo, write};
-use bgp_open::Families;
 use bgp_path::Path;
-use bgp_update::{Changes, Destination, Put};
+use bgp_update::{Changes, Destination, Families, Put};
 use std::alloc::{AllocError, Allocator};
 
 /// Removes the routes to some destinations, and then puts the others, but those of disabled

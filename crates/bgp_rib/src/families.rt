@@ -3,8 +3,8 @@
 ghost use Rattle.std.specs.Prelude.{◌≡◌};
 ghost use Rattle.bgp_rib.specs.Routes.{only};
 
-use bgp_open::Families;
 use bgp_prefix::Family;
+use bgp_update::Families;
 
 /// The family alone.
 pub fn only(family: Family) -> Families

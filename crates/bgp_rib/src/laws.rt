@@ -16,8 +16,8 @@ ghost use Rattle.std.specs.Map.{update_all};
 ghost use Rattle.std.specs.Set.{is_member};
 ghost use Rattle.bgp_update.specs.declared.destination.Destination.{Destination};
 ghost use Rattle.bgp_rib.specs.DestinationOrder.{destination_eq};
-ghost use Rattle.bgp_open.specs.declared.families.Families.{Families};
-ghost use Rattle.bgp_open.specs.Families.{contains, union};
+ghost use Rattle.bgp_update.specs.DeclaredFamilies.{Families};
+ghost use Rattle.bgp_update.specs.Families.{contains, union};
 ghost use Rattle.bgp_update.specs.Changes.{RouteChanges};
 ghost use Rattle.bgp_rib.specs.Routes.{
   Routes,

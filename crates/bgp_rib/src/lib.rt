@@ -20,6 +20,10 @@ mod table;
 mod updates;
 mod writing;
 
+pub use bgp_update::{
+    Changes, Outcomes, Subcodes, empty_is_clean, is_clean, read_update, some_outcome,
+    subcodes_are_sets,
+};
 pub use laws::{
     changes_leave_routes, disabled_families_are_left_out, each_change_is_the_maps,
     equal_maps_are_one, equality_is_real, updates_join,

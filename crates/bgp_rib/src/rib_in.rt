@@ -17,10 +17,9 @@ use crate::route_iter::RouteIter;
 use crate::table::Table;
 use crate::updates::{Applied, apply_updates};
 use crate::writing::{Log, drop_families, have_same_routes};
-use bgp_open::Families;
 use bgp_path::Path;
 use bgp_prefix::Family;
-use bgp_update::Changes;
+use bgp_update::{Changes, Families};
 use std::alloc::{AllocError, Allocator, Global};
 use std::marker::Model;
 

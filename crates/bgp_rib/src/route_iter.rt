@@ -5,9 +5,8 @@ ghost use Rattle.bgp_rib.specs.Rooms.{AreInOrder, routes_in};
 ghost use Rattle.bgp_rib.specs.Routes.{entries_outside};
 
 use crate::table::{Table, TableIter};
-use bgp_open::Families;
 use bgp_path::Path;
-use bgp_update::Destination;
+use bgp_update::{Destination, Families};
 use std::alloc::{Allocator, Global};
 use std::marker::Model;
 

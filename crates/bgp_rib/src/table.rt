@@ -7,16 +7,15 @@ ghost use Rattle.std.specs.Prelude.{◌+◌, ◌<◌, ◌^◌, IfOk, OnOk, OnErr
 ghost use Rattle.std.specs.BTreeMap.{insert_entry, is_at, IsOrdered};
 ghost use Rattle.std.specs.Map.{lookup, remove_entry};
 ghost use Rattle.std.specs.Option.{option_copied};
-ghost use Rattle.bgp_open.specs.Families.{contains};
+ghost use Rattle.bgp_update.specs.Families.{contains};
 ghost use Rattle.bgp_rib.specs.DestinationOrder.{destination_cmp};
 ghost use Rattle.bgp_rib.specs.Keys.{with_id};
 ghost use Rattle.bgp_rib.specs.Rooms.{AreInOrder};
 
 use crate::keys::{Identified, V4Key, V6Key};
-use bgp_open::Families;
 use bgp_path::Path;
 use bgp_prefix::{Address, Prefix};
-use bgp_update::{Destination, PathId};
+use bgp_update::{Destination, Families, PathId};
 use std::alloc::{AllocError, Allocator};
 use std::collections::{BTreeMap, btree_map};
 use std::marker::Model;

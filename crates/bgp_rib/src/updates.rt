@@ -18,9 +18,8 @@ ghost use Rattle.bgp_rib.specs.Updates.{
 use crate::applying::write_all;
 use crate::table::Table;
 use crate::writing::{Log, drop_families, sweep_all, undo};
-use bgp_open::Families;
 use bgp_path::Path;
-use bgp_update::Changes;
+use bgp_update::{Changes, Families};
 use std::alloc::{AllocError, Allocator, Global};
 
 /// What an UPDATE asks for where it is applied (RFC 7606, 2): its changes are made, and then

@@ -22,8 +22,7 @@ ghost use Rattle.bgp_rib.specs.Rooms.{
 ghost use Rattle.bgp_rib.specs.Routes.{entries_without, entries_outside};
 
 use crate::table::Table;
-use bgp_open::Families;
-use bgp_update::Destination;
+use bgp_update::{Destination, Families};
 use std::alloc::{AllocError, Allocator};
 
 /// What destinations had before they were written: the first write comes first.

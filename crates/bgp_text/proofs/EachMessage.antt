@@ -6,11 +6,11 @@ use Rattle.bgp_wire.specs.declared.header.Limit.{Limit}
 use Rattle.bgp_wire.specs.Header.{header_of, length_of}
 use Rattle.bgp_wire.specs.Message.{body_of}
 use Rattle.bgp_wire.specs.Framing.{IsFrame}
-use Rattle.bgp_open.proofs.EachOpen.{each_open}
+use Rattle.bgp_update.proofs.EachOpen.{each_open}
 use Rattle.bgp_wire.proofs.WholeFrame.{least_holds, frame_is_message, frame_is_keepalive, type_of_frame}
-use Rattle.bgp_open.specs.Open.{IsOpen, open_of}
-use Rattle.bgp_open.specs.declared.route_form.RouteForm.{RouteForm}
-use Rattle.bgp_open.specs.RouteForm.{plain_form}
+use Rattle.bgp_update.specs.Open.{IsOpen, open_of}
+use Rattle.bgp_update.specs.DeclaredRouteForm.{RouteForm}
+use Rattle.bgp_update.specs.RouteForm.{plain_form}
 use Rattle.bgp_update.proofs.OneParts.{each_parts}
 use Rattle.bgp_text.specs.Message.{Message, open_message, malformed_open_message, update_message, malformed_update_message, notification_message, keepalive_message, Says, Say}
 

@@ -1,8 +1,8 @@
 -- A frame says one thing.
 use Rattle.std.proofs.Common.{◌≡◌, ◌∙◌, ◌∷◌, [], ℕ, List, refl, sym, ap, arith}
-use Rattle.bgp_open.proofs.LeastFault as open_faults
-use Rattle.bgp_open.specs.declared.route_form.RouteForm.{RouteForm}
-use Rattle.bgp_open.specs.RouteForm.{plain_form}
+use Rattle.bgp_update.proofs.LeastFault as open_faults
+use Rattle.bgp_update.specs.DeclaredRouteForm.{RouteForm}
+use Rattle.bgp_update.specs.RouteForm.{plain_form}
 use Rattle.bgp_update.proofs.OneParts.{one_parts}
 use Rattle.bgp_text.specs.Message.{Message, Says, Say}
 use Rattle.bgp_text.specs.Message.{open_message, malformed_open_message, update_message, malformed_update_message, notification_message, keepalive_message}

@@ -9,8 +9,8 @@ use Rattle.bgp_wire.specs.declared.header.HeaderFaults.{HeaderFaults}
 use Rattle.bgp_wire.specs.Header.{header_of, limit_with}
 use Rattle.bgp_wire.specs.Verdict.{AreFaults}
 use Rattle.bgp_wire.specs.Framing.{IsFrame, IsFaulty}
-use Rattle.bgp_open.specs.declared.route_form.RouteForm.{RouteForm}
-use Rattle.bgp_open.specs.RouteForm.{plain_form}
+use Rattle.bgp_update.specs.DeclaredRouteForm.{RouteForm}
+use Rattle.bgp_update.specs.RouteForm.{plain_form}
 use Rattle.mrt.specs.Fault.{fault_number, fault_name}
 use Rattle.mrt.specs.declared.fault.FaultKind.{FaultKind}
 use Rattle.bgp_text.specs.Message.{Message, Says}

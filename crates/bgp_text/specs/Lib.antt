@@ -5,3 +5,6 @@ pub mod Message
 pub mod Text
 pub mod RouteText
 pub mod Capture
+pub use Rattle.bgp_update.specs.DeclaredFamilies
+pub use Rattle.bgp_update.specs.Parts
+pub use Rattle.bgp_update.specs.declared.destination.Destination

@@ -3,12 +3,12 @@
 use Rattle.std.specs.Prelude.{◌≡◌, ℕ, List, [], ◌∷◌}
 use Rattle.bgp_wire.specs.Header.{header_of, type_of}
 use Rattle.bgp_wire.specs.Message.{IsKeepalive}
-use Rattle.bgp_open.specs.Open.{OpenFields, open_of}
-use Rattle.bgp_open.specs.OpenFault.{IsWellFormed, IsAnswered}
-use Rattle.bgp_open.specs.Notification.{IsNotification}
-use Rattle.bgp_open.specs.declared.fault.OpenFault.{OpenFault}
-use Rattle.bgp_open.specs.declared.route_form.RouteForm.{RouteForm}
-use Rattle.bgp_open.specs.RouteForm.{plain_form}
+use Rattle.bgp_update.specs.Open.{OpenFields, open_of}
+use Rattle.bgp_update.specs.OpenFault.{IsWellFormed, IsAnswered}
+use Rattle.bgp_update.specs.Notification.{IsNotification}
+use Rattle.bgp_update.specs.DeclaredOpenFault.{OpenFault}
+use Rattle.bgp_update.specs.DeclaredRouteForm.{RouteForm}
+use Rattle.bgp_update.specs.RouteForm.{plain_form}
 use Rattle.bgp_update.specs.Parts.{UpdateParts, SpellsParts, LacksParts}
 
 pub data Message : Type 0 where

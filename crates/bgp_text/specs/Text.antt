@@ -7,12 +7,12 @@ use Rattle.std.specs.Fmt.{decimal}
 use Rattle.hex.specs.Hex.{encode_lower}
 use Rattle.bgp_prefix.specs.declared.address.Address.TheVariants.{V4}
 use Rattle.bgp_prefix.specs.Text.{address_text, prefix_text}
-use Rattle.bgp_attr.specs.Field.{Attribute}
+use Rattle.bgp_update.specs.AttrField.{Attribute}
 use Rattle.bgp_wire.specs.declared.header.HeaderFaults.{HeaderFaults}
-use Rattle.bgp_open.specs.Triplet.{Triplet}
-use Rattle.bgp_open.specs.Open.{OpenFields}
-use Rattle.bgp_open.specs.OpenFault.{open_fault_number}
-use Rattle.bgp_open.specs.declared.fault.OpenFault.{OpenFault}
+use Rattle.bgp_update.specs.Triplet.{Triplet}
+use Rattle.bgp_update.specs.Open.{OpenFields}
+use Rattle.bgp_update.specs.OpenFault.{open_fault_number}
+use Rattle.bgp_update.specs.DeclaredOpenFault.{OpenFault}
 use Rattle.bgp_update.specs.declared.destination.Destination.{Destination}
 use Rattle.bgp_update.specs.Parts.{UpdateParts}
 use Rattle.bgp_text.specs.Message.{Message, open_message, malformed_open_message, update_message}

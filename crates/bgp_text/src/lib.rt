@@ -22,8 +22,10 @@ mod updates;
 mod writing;
 
 pub use addresses::{put_address, put_prefix};
+pub use bgp_update::{Destination, Destinations, Families, Parts, read_parts};
 pub use lines::Lines;
 pub use messages::{put_fault, put_message, put_rest};
+pub use mrt::Sink;
 pub use records::{put_record, put_record_text, put_refused};
 pub use routes::{put_next_hop, put_route, write_route};
 pub use updates::put_destination;

@@ -3,8 +3,8 @@
 ghost use Rattle.std.specs.Prelude.{◌≡◌};
 ghost use Rattle.bgp_wire.specs.Header.{header_of, type_of};
 ghost use Rattle.bgp_wire.specs.Verdict.{type_code};
-ghost use Rattle.bgp_open.specs.Capability.{capability_of};
-ghost use Rattle.bgp_open.specs.RouteForm.{plain_form};
+ghost use Rattle.bgp_update.specs.Capability.{capability_of};
+ghost use Rattle.bgp_update.specs.RouteForm.{plain_form};
 ghost use Rattle.bgp_text.specs.Lines.{Writes};
 ghost use Rattle.bgp_text.specs.Message.{Message, Says};
 ghost use Rattle.bgp_text.specs.Text.{line_of, text_of, capability_text, capabilities_text};
@@ -13,11 +13,10 @@ ghost use Rattle.bgp_text.specs.Text.{subcode_text, subcodes_text, fault_line, r
 
 use crate::lines::Lines;
 use crate::updates::put_update;
-use bgp_open::{
+use bgp_update::{
     Capabilities, Capability, Notification, Open, OpenFault, RouteForm, read_notification,
-    read_open,
+    read_open, read_parts,
 };
-use bgp_update::read_parts;
 use bgp_wire::{HeaderFaults, MessageType};
 use mrt::Sink;
 

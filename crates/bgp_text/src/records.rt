@@ -11,8 +11,8 @@ ghost use Rattle.bgp_text.specs.Capture.{IsRecordText, IsRecordLine, refused_lin
 
 use crate::lines::Lines;
 use crate::messages::{put_message_text, put_subcodes};
-use bgp_open::RouteForm;
 use bgp_prefix::{Seconds, Session};
+use bgp_update::RouteForm;
 use bgp_wire::{HeaderFaults, HeaderVerdict, Limit, check_header, header_at};
 use mrt::{CaptureFault, Record, Sink};
 

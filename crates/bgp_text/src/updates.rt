@@ -1,6 +1,6 @@
 //! The text of an UPDATE (RFC 4271, 4.3), written while its fields are gone through.
 
-ghost use Rattle.bgp_attr.specs.Field.{attribute_of};
+ghost use Rattle.bgp_update.specs.AttrField.{attribute_of};
 ghost use Rattle.bgp_update.specs.Parts.{parts_of};
 ghost use Rattle.bgp_text.specs.Lines.{Writes};
 ghost use Rattle.bgp_text.specs.Text.{attribute_text, attributes_text, destination_text};
@@ -8,8 +8,7 @@ ghost use Rattle.bgp_text.specs.Text.{destinations_text, path_id_text, update_te
 
 use crate::addresses::put_prefix;
 use crate::lines::Lines;
-use bgp_attr::{Attr, Attrs};
-use bgp_update::{Destination, Destinations, Parts, PathId};
+use bgp_update::{Attr, Attrs, Destination, Destinations, Parts, PathId};
 use mrt::Sink;
 
 /// Puts the identifier of a path behind `#`, or nothing if it has none.

@@ -16,8 +16,8 @@ use Rattle.mrt.proofs.OtherPairs.{others_chain}
 use Rattle.mrt.proofs.Advancing.{joined_more}
 use Rattle.mrt.proofs.AllowedRecord.{each_allowed}
 use Rattle.mrt.proofs.Chains.{joined_chain, records_chain, last_chain, pieces_chain, one_record, last_piece, no_pieces_there}
-use Rattle.bgp_lines.specs.Form.{Before, before_behind, nothing_before}
-use Rattle.bgp_lines.specs.Telling.{placed_as}
+use Rattle.bgp_json.specs.Form.{Before, before_behind, nothing_before}
+use Rattle.bgp_json.specs.LinesTelling.{placed_as}
 use Rattle.bgp_json.specs.Output.{IsRecordOutput}
 use Rattle.bgp_tool.specs.CaptureDecoding.{AreCaptureLines, EndsAt}
 use Rattle.bgp_tool.specs.declared.session_options.SessionOptions.{SessionOptions}

@@ -14,3 +14,7 @@ pub mod Fronts
 pub mod ShownAnswers
 pub mod PlacedLines
 pub mod OneRecordLine
+pub use Rattle.bgp_json.proofs.Lines
+pub use Rattle.bgp_json.proofs.ReadsBack
+pub use Rattle.bgp_json.proofs.Shallow
+pub use Rattle.bgp_json.proofs.Tokens

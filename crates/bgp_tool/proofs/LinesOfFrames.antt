@@ -8,7 +8,7 @@ use Rattle.bgp_wire.specs.Framing.{IsFrame, joined}
 use Rattle.bgp_text.specs.Message.{Message, Say}
 use Rattle.bgp_text.specs.Text.{line_of}
 use Rattle.bgp_values.specs.declared.opens.Direction.TheVariants.{Received}
-use Rattle.bgp_lines.specs.declared.form.LineForm.TheVariants.{Plain}
+use Rattle.bgp_json.specs.LineForm.TheVariants.{Plain}
 use Rattle.bgp_json.specs.Output.{IsFrameOutput}
 use Rattle.bgp_json.specs.declared.output_form.OutputForm.{OutputForm}
 use Rattle.bgp_json.specs.declared.output_form.OutputForm.TheVariants.{Text}

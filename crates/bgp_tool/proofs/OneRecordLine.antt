@@ -15,12 +15,12 @@ use Rattle.bgp_text.proofs.OneMessage.{one_message}
 use Rattle.bgp_values.specs.declared.opens.Direction.{Direction}
 use Rattle.bgp_values.specs.declared.opens.Direction.TheVariants.{Received, Sent}
 use Rattle.bgp_values.specs.declared.opens.Reading.{Reading}
-use Rattle.bgp_lines.specs.Form.{Before, IsNamedMessage, IsNamedMessageOf, IsNamedRecord, IsPlacedLine, PlacedRecord, before_behind, placed_text}
-use Rattle.bgp_lines.specs.MessageLine.{named_text}
-use Rattle.bgp_lines.specs.Others.{named_fault}
-use Rattle.bgp_lines.specs.declared.form.LineForm.{LineForm}
-use Rattle.bgp_lines.specs.declared.form.LineForm.TheVariants.{Plain, Names}
-use Rattle.bgp_lines.proofs.OneOffer.{one_reading}
+use Rattle.bgp_json.specs.Form.{Before, IsNamedMessage, IsNamedMessageOf, IsNamedRecord, IsPlacedLine, PlacedRecord, before_behind, placed_text}
+use Rattle.bgp_json.specs.MessageLine.{named_text}
+use Rattle.bgp_json.specs.LinesOthers.{named_fault}
+use Rattle.bgp_json.specs.LineForm.{LineForm}
+use Rattle.bgp_json.specs.LineForm.TheVariants.{Plain, Names}
+use Rattle.bgp_json.proofs.OneOffer.{one_reading}
 use Rattle.bgp_json.specs.Output.{AreRecordOutputs, IsRecordOutput}
 use Rattle.bgp_json.specs.declared.output_form.OutputForm.{OutputForm}
 use Rattle.bgp_json.specs.declared.output_form.OutputForm.TheVariants.{Text, Json}

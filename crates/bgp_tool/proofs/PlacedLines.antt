@@ -4,9 +4,9 @@ use Rattle.bgp_prefix.specs.Shown.{ShownRecord}
 use Rattle.bgp_prefix.specs.declared.session.Session.{Session}
 use Rattle.mrt.specs.declared.fault.CaptureFault.{CaptureFault}
 use Rattle.bgp_text.specs.Capture.{AreRecordLines}
-use Rattle.bgp_lines.specs.Form.{Before, PlacedRecord, before_behind}
-use Rattle.bgp_lines.specs.Telling.{placed_as}
-use Rattle.bgp_lines.specs.declared.form.LineForm.TheVariants.{Plain}
+use Rattle.bgp_json.specs.Form.{Before, PlacedRecord, before_behind}
+use Rattle.bgp_json.specs.LinesTelling.{placed_as}
+use Rattle.bgp_json.specs.LineForm.TheVariants.{Plain}
 use Rattle.bgp_json.specs.Others.{capture_json}
 use Rattle.bgp_json.specs.Output.{AreRecordOutputs, IsJson, IsJsonLine, IsRecordOutput, refusal_output}
 use Rattle.bgp_json.specs.declared.output_form.OutputForm.{OutputForm}

@@ -15,8 +15,8 @@ use Rattle.mrt.specs.declared.sink.Sink as sinks
 use Rattle.bgp_judge.specs.Judging.{fault_in}
 use Rattle.bgp_text.specs.declared.lines.Lines.{Lines}
 use Rattle.bgp_text.specs.Lines.{Writes}
-use Rattle.bgp_lines.specs.Form.{nothing_before}
-use Rattle.bgp_lines.specs.Telling.{placed_as}
+use Rattle.bgp_json.specs.Form.{nothing_before}
+use Rattle.bgp_json.specs.LinesTelling.{placed_as}
 use Rattle.bgp_json.specs.Output.{AreRecordOutputs, IsJson, IsJsonLine, refusal_output}
 use Rattle.bgp_json.specs.declared.output_form.OutputForm.{OutputForm}
 use Rattle.bgp_tool.specs.declared.session_options.SessionOptions.{SessionOptions}

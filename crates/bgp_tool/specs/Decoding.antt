@@ -9,7 +9,7 @@ use Rattle.bgp_wire.specs.Framing.{IsFraming, IsShort, IsFaulty, joined}
 use Rattle.bgp_text.specs.Message.{Message}
 use Rattle.bgp_text.specs.Text.{line_of}
 use Rattle.bgp_values.specs.declared.opens.Direction.TheVariants.{Received}
-use Rattle.bgp_lines.specs.Form.{Before}
+use Rattle.bgp_json.specs.Form.{Before}
 use Rattle.bgp_json.specs.Output.{IsFrameOutput, fault_output, rest_output}
 use Rattle.bgp_json.specs.declared.output_form.OutputForm.{OutputForm}
 use Rattle.bgp_tool.specs.declared.stream_options.StreamOptions.{StreamOptions}

@@ -12,3 +12,6 @@ pub mod Answer
 pub mod Judging
 pub mod NothingFound
 pub mod Shown
+pub use Rattle.bgp_json.specs.Line
+pub use Rattle.bgp_json.specs.Object
+pub use Rattle.bgp_json.specs.Others

@@ -33,6 +33,7 @@ mod status;
 mod stream_options;
 mod verdicts;
 
+pub use bgp_json::{begin, put_json_capture_refusal, put_json_recording_refusal, put_text};
 pub use captures::{decode_capture, hand_over};
 pub use decoding::decode_raw;
 pub use error_words::ErrorWords;

@@ -8,10 +8,9 @@ ghost use Rattle.bgp_tool.specs.VerdictText.{state_text, families_text, route_li
 ghost use Rattle.bgp_tool.specs.VerdictText.{no_line, verdict_text};
 
 use bgp_judge::{End, Verdict};
-use bgp_machine::Fsm;
+use bgp_machine::{Fsm, RibIn};
 use bgp_open::Families;
 use bgp_path::Path;
-use bgp_rib::RibIn;
 use bgp_text::{Lines, put_route};
 use bgp_update::Destination;
 use mrt::Sink;

@@ -1,7 +1,7 @@
 -- What makes an UPDATE clean, word by word.
 use Rattle.std.proofs.Common.{◌≡◌, ◌≢◌, ◌↔◌, ◌≤◌, ◌⊎◌, ◌&&◌, ℕ, List, length, Bool, true, false, not, IsTrue, MatchBool, refl, ap, sym, subst, ◌∙◌, inl, inr}
-use Rattle.bgp_prefix.specs.declared.family.Family.{Family}
-use Rattle.bgp_prefix.specs.declared.family.Family.TheVariants.{V4, V6}
+use Rattle.bgp_open.specs.Family.{Family}
+use Rattle.bgp_open.specs.Family.TheVariants.{V4, V6}
 use Rattle.bgp_open.specs.declared.link.Link.{Link}
 use Rattle.bgp_update.specs.declared.mp.MpState.{MpState}
 use Rattle.bgp_update.specs.declared.mp.MpState.TheVariants as states

@@ -4,11 +4,11 @@ use Rattle.std.specs.Prelude.{IfNone}
 use Rattle.std.proofs.lemmas.Bool.{cases_Bool, and_parts, leb-true, le-leb, eqb-true, ne_eqb, eq-eqb}
 use Rattle.std.proofs.lemmas.List.{length-drop, drop_all, nil_from_length, take_at}
 use Rattle.byteorder.specs.Endian.{big_number}
-use Rattle.bgp_prefix.specs.declared.family.Family.{Family}
-use Rattle.bgp_prefix.specs.Address.{bit_count}
-use Rattle.bgp_prefix.specs.Prefix.{PrefixBits, BeginsWithPrefix}
-use Rattle.bgp_prefix.proofs.OneSpelling.{tells, one_spelling}
-use Rattle.bgp_prefix.proofs.PrefixParts.{begins}
+use Rattle.bgp_open.specs.Family.{Family}
+use Rattle.bgp_open.specs.Address.{bit_count}
+use Rattle.bgp_open.specs.Prefix.{PrefixBits, BeginsWithPrefix}
+use Rattle.bgp_open.proofs.OneSpelling.{tells, one_spelling}
+use Rattle.bgp_open.proofs.PrefixParts.{begins}
 use Rattle.bgp_update.specs.declared.destination.Destination.{Destination}
 use Rattle.bgp_update.specs.Listed.{listed}
 use Rattle.bgp_update.specs.Plain.{plain}

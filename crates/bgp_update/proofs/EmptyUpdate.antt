@@ -1,18 +1,18 @@
 -- An UPDATE whose fields are empty is clean on every link.
 use Rattle.std.proofs.Common.{◌≡◌, ℕ, ◌+◌, ◌<◌, ◌≤◌, ◌^◌, ◌⊎◌, length, [], Some, None, true, false, refl, subst, inl, inr, arith}
-use Rattle.bgp_prefix.specs.declared.family.Family.{Family}
+use Rattle.bgp_open.specs.Family.{Family}
 use Rattle.bgp_open.specs.declared.link.Link.{Link}
 use Rattle.bgp_open.specs.declared.route_form.RouteForm.{RouteForm}
 use Rattle.bgp_attr.specs.Split.{attributes_of, rest_of, tail_at}
-use Rattle.bgp_wire.specs.declared.header.Limit.{Limit}
-use Rattle.bgp_wire.specs.declared.header.MessageType.TheVariants.{Update}
-use Rattle.bgp_wire.specs.Framing.{IsFrame}
-use Rattle.bgp_wire.specs.Header.{IsBadLength, limit_with}
-use Rattle.bgp_wire.specs.Message.{message_octets}
-use Rattle.bgp_wire.specs.Verdict.{type_code}
-use Rattle.bgp_wire.proofs.GreatestLength.{allows_4096}
-use Rattle.bgp_wire.proofs.WholeMessages.{written_is_frame}
-use Rattle.bgp_wire.proofs.WrittenMessage.{written_message, body_of-message_octets, length-message_octets}
+use Rattle.bgp_attr.specs.Limit.{Limit}
+use Rattle.bgp_attr.specs.MessageType.TheVariants.{Update}
+use Rattle.bgp_attr.specs.Framing.{IsFrame}
+use Rattle.bgp_attr.specs.Header.{IsBadLength, limit_with}
+use Rattle.bgp_attr.specs.Message.{message_octets}
+use Rattle.bgp_attr.specs.Verdict.{type_code}
+use Rattle.bgp_attr.proofs.GreatestLength.{allows_4096}
+use Rattle.bgp_attr.proofs.WholeMessages.{written_is_frame}
+use Rattle.bgp_attr.proofs.WrittenMessage.{written_message, body_of-message_octets, length-message_octets}
 use Rattle.bgp_update.specs.Laws.{HasCleanUpdate}
 use Rattle.bgp_update.specs.Clean.{IsCleanBy, most_octets}
 use Rattle.bgp_update.specs.Disabled.{IsCertain, IsOptional}

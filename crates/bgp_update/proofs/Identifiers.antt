@@ -2,12 +2,12 @@
 use Rattle.std.proofs.Common.{◌≡◌, ◌++◌, ℕ, Bool, true, false, List, [], ◌∷◌, All, Option, None, Some, is_some, refl, sym, ap, subst, ◌∙◌, inl, inr}
 use Rattle.std.proofs.lemmas.Bool.{cases_Bool}
 use Rattle.std.proofs.lemmas.List.Elements.{All-nil, All-cons, All-append, All-map}
-use Rattle.bgp_prefix.specs.declared.family.Family.{Family}
-use Rattle.bgp_prefix.specs.declared.family.Family.TheVariants.{V4}
+use Rattle.bgp_open.specs.Family.{Family}
+use Rattle.bgp_open.specs.Family.TheVariants.{V4}
 use Rattle.bgp_open.specs.declared.link.Link.{Link}
 use Rattle.bgp_open.specs.declared.route_form.RouteForm.{RouteForm}
 use Rattle.bgp_open.specs.Families.{contains}
-use Rattle.bgp_path.specs.Path.{PathValue}
+use Rattle.bgp_attr.specs.Path.{PathValue}
 use Rattle.bgp_attr.specs.declared.types.AttrType.TheVariants as types
 use Rattle.bgp_attr.specs.First.{first_by_type}
 use Rattle.bgp_attr.specs.Split.{attributes_of}

@@ -14,3 +14,6 @@ pub mod Routes
 pub mod Seen
 pub mod Words
 pub mod Identifiers
+pub use Rattle.bgp_open.proofs.EachOpen
+pub use Rattle.bgp_open.proofs.LeastFault
+pub use Rattle.bgp_attr.proofs.WholeSegments

@@ -3,9 +3,9 @@ use Rattle.std.proofs.Common.{◌≡◌, ℕ, suc, ◌+◌, ◌<◌, ◌≤◌, 
 use Rattle.std.proofs.lemmas.Bool.{cases_Bool, le-ltb, ltb-false}
 use Rattle.std.proofs.lemmas.List.{drop-drop, length-drop, length-take, length-append, take-append-drop}
 use Rattle.std.proofs.Math.Seq.{drop-cons, take-append_seam, drop-append_seam}
-use Rattle.bgp_prefix.specs.declared.family.Family.{Family}
+use Rattle.bgp_open.specs.Family.{Family}
 use Rattle.bgp_open.specs.declared.route_form.RouteForm.{RouteForm}
-use Rattle.bgp_path.specs.declared.path.NextHop.{NextHop}
+use Rattle.bgp_attr.specs.NextHop.{NextHop}
 use Rattle.bgp_update.specs.declared.destination.Destination.{Destination}
 use Rattle.bgp_update.specs.MpValue.{Contents, next_hop_in, with_hop, reach_contents, IsReachValue, ReadsMpValues}
 use Rattle.bgp_update.specs.Destinations.{destinations_of, is_identified}

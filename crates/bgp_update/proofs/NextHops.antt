@@ -2,16 +2,16 @@
 use Rattle.std.proofs.Common.{◌≡◌, ◌==◌, ℕ, nat_lt, Bool, true, List, [], ◌∷◌, length, All, Option, None, Some, refl, sym, ap, subst, ◌∙◌, inl, inr}
 use Rattle.std.proofs.lemmas.Bool.{cases_Bool}
 use Rattle.std.proofs.lemmas.List.Elements.{All-nil, All-cons, All-head, All-tail, All-append}
-use Rattle.bgp_prefix.specs.declared.family.Family.{Family}
-use Rattle.bgp_prefix.specs.declared.family.Family.TheVariants as families
+use Rattle.bgp_open.specs.Family.{Family}
+use Rattle.bgp_open.specs.Family.TheVariants as families
 use Rattle.bgp_update.specs.declared.destination.Destination.{Destination}
 use Rattle.bgp_open.specs.declared.families.Families.{Families}
 use Rattle.bgp_open.specs.declared.link.Link.{Link}
 use Rattle.bgp_open.specs.declared.route_form.RouteForm.{RouteForm}
 use Rattle.bgp_open.specs.Families.{contains}
-use Rattle.bgp_path.specs.declared.path.NextHop.{NextHop}
-use Rattle.bgp_path.specs.declared.path.NextHop.TheVariants as hops
-use Rattle.bgp_path.specs.Path.{PathValue}
+use Rattle.bgp_attr.specs.NextHop.{NextHop}
+use Rattle.bgp_attr.specs.NextHop.TheVariants as hops
+use Rattle.bgp_attr.specs.Path.{PathValue}
 use Rattle.bgp_attr.specs.declared.types.AttrType.TheVariants as types
 use Rattle.bgp_attr.specs.Field.{Attribute}
 use Rattle.bgp_attr.specs.First.{first_by_type}

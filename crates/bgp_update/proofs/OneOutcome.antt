@@ -1,6 +1,6 @@
 -- An UPDATE changes one thing, and a clean one has one outcome.
 use Rattle.std.proofs.Common.{◌≡◌, ◌↔◌, ℕ, List, Bool, true, false, IsTrue, refl, sym, subst, ◌∙◌, inl, inr}
-use Rattle.bgp_prefix.specs.declared.family.Family.TheVariants.{V4, V6}
+use Rattle.bgp_open.specs.Family.TheVariants.{V4, V6}
 use Rattle.bgp_update.specs.declared.destination.Destination.{Destination}
 use Rattle.bgp_open.specs.declared.families.Families.{Families}
 use Rattle.bgp_open.specs.declared.link.Link.{Link}

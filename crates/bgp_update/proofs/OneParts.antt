@@ -3,12 +3,12 @@ use Rattle.std.proofs.Common.{◌≡◌, ◌∙◌, ◌⊎◌, ℕ, suc, ◌+◌
 use Rattle.std.proofs.lemmas.Bool.{cases_lt}
 use Rattle.std.proofs.lemmas.List.{length-take, length-append, take-append-drop}
 use Rattle.byteorder.specs.Endian.{big_bytes}
-use Rattle.bgp_prefix.specs.declared.family.Family.TheVariants.{V4}
+use Rattle.bgp_open.specs.Family.TheVariants.{V4}
 use Rattle.bgp_update.specs.declared.destination.Destination.{Destination}
 use Rattle.bgp_open.specs.declared.route_form.RouteForm.{RouteForm}
 use Rattle.bgp_attr.specs.declared.field.Tail.{Tail}
 use Rattle.bgp_attr.specs.Split.{Split, split_of}
-use Rattle.bgp_wire.specs.Message.{IsMessage, body_of}
+use Rattle.bgp_attr.specs.Message.{IsMessage, body_of}
 use Rattle.bgp_update.specs.Counted.{IsCounted, LacksCounted}
 use Rattle.bgp_update.specs.Parts.{UpdateParts, SpellsParts, LacksParts}
 use Rattle.bgp_update.specs.Destinations.{AreDestinations, is_identified}

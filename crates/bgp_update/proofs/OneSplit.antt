@@ -3,7 +3,7 @@ use Rattle.std.proofs.Common.{◌≡◌, ℕ, List, ◌++◌, length, take, drop
 use Rattle.std.proofs.Math.Seq.{take-append_seam, drop-append_seam}
 use Rattle.byteorder.specs.Endian.{big_bytes, big_number}
 use Rattle.byteorder.specs.Numbers.{big_number-reads_back}
-use Rattle.bgp_wire.specs.Message.{body_of}
+use Rattle.bgp_attr.specs.Message.{body_of}
 use Rattle.bgp_update.specs.Counted.{IsCounted, LacksCounted}
 use Rattle.bgp_update.specs.Sections.{Sections, IsUpdate, IsMalformed}
 

@@ -1,13 +1,13 @@
 -- Links over which an UPDATE is read alike.
 use Rattle.std.proofs.Common.{◌≡◌, ◌⊎◌, ◌≤◌, ◌++◌, List, [], length, Option, None, Some, IsTrue, refl, sym, ap, subst, inl, inr}
-use Rattle.bgp_prefix.specs.declared.family.Family.TheVariants.{V4}
+use Rattle.bgp_open.specs.Family.TheVariants.{V4}
 use Rattle.bgp_update.specs.declared.destination.Destination.{Destination}
 use Rattle.bgp_open.specs.declared.families.Families.{Families}
 use Rattle.bgp_open.specs.declared.link.Link.{Link}
 use Rattle.bgp_open.specs.declared.route_form.RouteForm.{RouteForm}
 use Rattle.bgp_open.specs.Families.{contains}
 use Rattle.bgp_open.proofs.TwoEnds.{settle_ends}
-use Rattle.bgp_wire.specs.Header.{greatest_length, limit_with}
+use Rattle.bgp_attr.specs.Header.{greatest_length, limit_with}
 use Rattle.bgp_attr.specs.declared.types.AttrType.TheVariants as types
 use Rattle.bgp_attr.specs.Field.{Attribute}
 use Rattle.bgp_attr.specs.First.{value_among}

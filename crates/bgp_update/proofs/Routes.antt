@@ -1,13 +1,13 @@
 -- Routes in groups, and the changes that they make.
 use Rattle.std.proofs.Common.{◌≡◌, ℕ, List, [], ◌∷◌, ◌++◌, Bool, true, false, Option, None, Some, Result, Ok, Err, refl, ap, sym, ◌∙◌, append_assoc, inl, inr}
 use Rattle.std.specs.Prelude.{IfOk, OnOk}
-use Rattle.bgp_prefix.specs.declared.family.Family.{Family}
-use Rattle.bgp_prefix.specs.declared.family.Family.TheVariants.{V4}
+use Rattle.bgp_open.specs.Family.{Family}
+use Rattle.bgp_open.specs.Family.TheVariants.{V4}
 use Rattle.bgp_update.specs.declared.destination.Destination.{Destination}
 use Rattle.bgp_open.specs.declared.link.Link.{Link}
 use Rattle.bgp_open.specs.Families.{contains}
-use Rattle.bgp_path.specs.declared.path.NextHop.{NextHop}
-use Rattle.bgp_path.specs.Path.{PathValue}
+use Rattle.bgp_attr.specs.NextHop.{NextHop}
+use Rattle.bgp_attr.specs.Path.{PathValue}
 use Rattle.bgp_attr.specs.declared.classes.Side.{Side}
 use Rattle.bgp_attr.specs.declared.types.AttrType.{AttrType}
 use Rattle.bgp_attr.specs.declared.types.AttrType.TheVariants as types

@@ -3,7 +3,7 @@ use Rattle.std.proofs.Common.{◌≡◌, ◌≢◌, ◌↔◌, ◌⊎◌, Bool, 
 use Rattle.bgp_update.specs.declared.destination.Destination.{Destination}
 use Rattle.bgp_update.specs.Listed.{listed}
 use Rattle.bgp_update.specs.Field.{field_destinations}
-use Rattle.bgp_prefix.specs.declared.family.Family.{Family}
+use Rattle.bgp_open.specs.Family.{Family}
 use Rattle.bgp_update.specs.declared.mp.MpContents.{MpContents}
 use Rattle.bgp_update.specs.declared.mp.MpState.{MpState}
 use Rattle.bgp_update.specs.declared.mp.MpState.TheVariants as states

@@ -1,7 +1,7 @@
 -- The outcomes that a value of `Outcomes` stands for.
 use Rattle.std.specs.Prelude.{◌≡◌, ◌++◌, List, [], Option, None, Some, IsTrue, IsFalse}
 use Rattle.std.specs.Prelude.{MatchOption}
-use Rattle.bgp_prefix.specs.declared.family.Family.{Family}
+use Rattle.bgp_open.specs.Family.{Family}
 use Rattle.bgp_open.specs.declared.families.Families.{Families}
 use Rattle.bgp_open.specs.Families.{contains}
 use Rattle.bgp_update.specs.declared.outcomes.Changes.{Changes}

@@ -1,13 +1,13 @@
 -- What an UPDATE changes where it is applied (RFC 4271, 3.1 and 9; RFC 7606, 2).
 use Rattle.std.specs.Prelude.{◌≡◌, ◌⊎◌, ◌++◌, List, [], Option, None, Some, map}
 use Rattle.std.specs.Prelude.{if◌then◌else◌}
-use Rattle.bgp_prefix.specs.declared.family.Family.TheVariants.{V4}
+use Rattle.bgp_open.specs.Family.TheVariants.{V4}
 use Rattle.bgp_open.specs.declared.link.Link.{Link}
 use Rattle.bgp_open.specs.Families.{contains}
-use Rattle.bgp_path.specs.declared.path.NextHop.{NextHop}
+use Rattle.bgp_attr.specs.NextHop.{NextHop}
 use Rattle.bgp_attr.specs.declared.types.AttrType.TheVariants as types
 use Rattle.bgp_attr.specs.Field.{Attribute}
-use Rattle.bgp_path.specs.Path.{PathValue}
+use Rattle.bgp_attr.specs.Path.{PathValue}
 use Rattle.bgp_attr.specs.First.{value_among}
 use Rattle.bgp_attr.specs.PathFrom.{next_hop_from, path_from}
 use Rattle.bgp_update.specs.declared.destination.Destination.{Destination}

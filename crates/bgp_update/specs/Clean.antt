@@ -2,9 +2,9 @@
 -- 4.3 and 5; RFC 7606, 3). How routes are spelled that are sent, the link's sent form says
 -- (RFC 8950, 4).
 use Rattle.std.specs.Prelude.{◌≡◌, ◌≢◌, ◌≤◌, ◌⊎◌, ℕ, List, [], Some, false, IsTrue, length}
-use Rattle.bgp_wire.specs.Header.{greatest_length, limit_with}
-use Rattle.bgp_prefix.specs.declared.family.Family.{Family}
-use Rattle.bgp_prefix.specs.declared.family.Family.TheVariants.{V4}
+use Rattle.bgp_attr.specs.Header.{greatest_length, limit_with}
+use Rattle.bgp_open.specs.Family.{Family}
+use Rattle.bgp_open.specs.Family.TheVariants.{V4}
 use Rattle.bgp_open.specs.declared.link.Link.{Link}
 use Rattle.bgp_open.specs.Families.{contains}
 use Rattle.bgp_update.specs.Disabled.{IsCertain, IsOptional}

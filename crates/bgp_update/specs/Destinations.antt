@@ -6,10 +6,10 @@ use Rattle.std.specs.Prelude.{List, [], ◌∷◌, if◌then◌else◌, length, 
 use Rattle.std.specs.Prelude.{Option, None, Some}
 use Rattle.std.specs.Option.{option_map}
 use Rattle.byteorder.specs.Endian.{big_number}
-use Rattle.bgp_prefix.specs.declared.family.Family.{Family}
-use Rattle.bgp_prefix.specs.Address.{bit_count}
-use Rattle.bgp_prefix.specs.Bits.{bits_of_octets}
-use Rattle.bgp_prefix.specs.Prefix.{PrefixBits, BeginsWithPrefix}
+use Rattle.bgp_open.specs.Family.{Family}
+use Rattle.bgp_open.specs.Address.{bit_count}
+use Rattle.bgp_open.specs.Bits.{bits_of_octets}
+use Rattle.bgp_open.specs.Prefix.{PrefixBits, BeginsWithPrefix}
 use Rattle.bgp_open.specs.Families.{contains}
 use Rattle.bgp_open.specs.declared.route_form.RouteForm.{RouteForm}
 use Rattle.bgp_update.specs.declared.destination.Destination.{Destination}

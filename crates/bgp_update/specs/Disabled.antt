@@ -1,7 +1,7 @@
 -- The families that are disabled where an UPDATE is applied, "AFI/SAFI disable" (RFC 4760, 7;
 -- RFC 7606, 2, 5.3 and 7.11).
 use Rattle.std.specs.Prelude.{◌≡◌, ◌⊎◌, IsTrue}
-use Rattle.bgp_prefix.specs.declared.family.Family.{Family}
+use Rattle.bgp_open.specs.Family.{Family}
 use Rattle.bgp_open.specs.declared.families.Families.{Families}
 use Rattle.bgp_open.specs.Families.{contains}
 use Rattle.bgp_update.specs.Found.{Found, MpFound}

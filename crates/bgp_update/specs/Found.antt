@@ -3,8 +3,8 @@
 use Rattle.std.specs.Prelude.{ℕ, ◌==◌, ◌&&◌, Bool, true, false, not, List, [], ◌∷◌, Option, Some}
 use Rattle.std.specs.Prelude.{is_some, if◌then◌else◌}
 use Rattle.std.specs.List.{list_any}
-use Rattle.bgp_prefix.specs.declared.family.Family.{Family}
-use Rattle.bgp_prefix.specs.declared.family.Family.TheVariants.{V4}
+use Rattle.bgp_open.specs.Family.{Family}
+use Rattle.bgp_open.specs.Family.TheVariants.{V4}
 use Rattle.bgp_open.specs.declared.link.Link.{Link}
 use Rattle.bgp_open.specs.declared.route_form.RouteForm.{RouteForm}
 use Rattle.bgp_attr.specs.declared.classes.AttrVerdict.{AttrVerdict}

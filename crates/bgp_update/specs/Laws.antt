@@ -1,7 +1,7 @@
 -- Laws of UPDATEs and their outcomes.
 use Rattle.std.specs.Prelude.{◌≡◌, ◌↔◌, ℕ, List, [], is_some, IsTrue, All}
-use Rattle.bgp_prefix.specs.declared.family.Family.{Family}
-use Rattle.bgp_prefix.specs.declared.family.Family.TheVariants as families
+use Rattle.bgp_open.specs.Family.{Family}
+use Rattle.bgp_open.specs.Family.TheVariants as families
 use Rattle.bgp_open.specs.declared.config.Config.{Config}
 use Rattle.bgp_open.specs.declared.families.Families.{Families}
 use Rattle.bgp_open.specs.declared.link.Link.{Link}
@@ -10,11 +10,11 @@ use Rattle.bgp_open.specs.Families.{no_families}
 use Rattle.bgp_open.specs.Link.{link_of}
 use Rattle.bgp_open.specs.Open.{open_of}
 use Rattle.bgp_open.specs.TwoEnds.{ArePeers}
-use Rattle.bgp_path.specs.declared.path.NextHop.{NextHop}
-use Rattle.bgp_path.specs.declared.path.NextHop.TheVariants as hops
-use Rattle.bgp_wire.specs.Message.{message_octets}
-use Rattle.bgp_wire.specs.declared.header.Limit.{Limit}
-use Rattle.bgp_wire.specs.Framing.{IsFrame}
+use Rattle.bgp_attr.specs.NextHop.{NextHop}
+use Rattle.bgp_attr.specs.NextHop.TheVariants as hops
+use Rattle.bgp_attr.specs.Message.{message_octets}
+use Rattle.bgp_attr.specs.Limit.{Limit}
+use Rattle.bgp_attr.specs.Framing.{IsFrame}
 use Rattle.bgp_update.specs.declared.destination.Destination.{Destination}
 use Rattle.bgp_update.specs.Destinations.{is_identified}
 use Rattle.bgp_update.specs.Changes.{RouteChanges}

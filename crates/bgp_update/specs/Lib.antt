@@ -24,3 +24,17 @@ pub mod Clean
 pub mod Subcodes
 pub mod Allowed
 pub mod Laws
+pub use Rattle.bgp_attr.specs.Field as AttrField
+pub use Rattle.bgp_attr.specs.Split
+pub use Rattle.bgp_open.specs.Families
+pub use Rattle.bgp_open.specs.declared.families.Families as DeclaredFamilies
+pub use Rattle.bgp_open.specs.Capability
+pub use Rattle.bgp_open.specs.Notification
+pub use Rattle.bgp_open.specs.Open
+pub use Rattle.bgp_open.specs.OpenFault
+pub use Rattle.bgp_open.specs.RouteForm
+pub use Rattle.bgp_open.specs.Triplet
+pub use Rattle.bgp_open.specs.declared.fault.OpenFault as DeclaredOpenFault
+pub use Rattle.bgp_open.specs.declared.route_form.RouteForm as DeclaredRouteForm
+pub use Rattle.bgp_attr.specs.PathIn
+pub use Rattle.bgp_attr.specs.Segments

@@ -1,7 +1,7 @@
 -- What state an MP attribute is in (RFC 4760, 7; RFC 7606, 5.3, 7.11 and 7.12).
 use Rattle.std.specs.Prelude.{ℕ, Bool, false, not, nat_lt, List, if◌then◌else◌, length}
 use Rattle.std.specs.Prelude.{Option, None, Some}
-use Rattle.bgp_prefix.specs.declared.family.Family.{Family}
+use Rattle.bgp_open.specs.Family.{Family}
 use Rattle.bgp_open.specs.declared.families.Families.{Families}
 use Rattle.bgp_open.specs.Families.{contains}
 use Rattle.bgp_attr.specs.declared.types.AttrType.{AttrType}

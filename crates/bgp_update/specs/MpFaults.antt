@@ -1,7 +1,7 @@
 -- The rules on one MP attribute, MP_REACH_NLRI or MP_UNREACH_NLRI (RFC 4760, 7; RFC 7606, 5.3, 7.11
 -- and 7.12). Where those can be read in two ways, the words are this project's profile.
 use Rattle.std.specs.Prelude.{◌≡◌, ◌⊎◌, ℕ, IsTrue}
-use Rattle.bgp_prefix.specs.declared.family.Family.{Family}
+use Rattle.bgp_open.specs.Family.{Family}
 use Rattle.bgp_update.specs.Found.{MpFound}
 use Rattle.bgp_update.specs.Mp.{Mp, Cut, Other, Unused, Broken, Sound}
 use Rattle.bgp_update.specs.MpValue.{Contents}

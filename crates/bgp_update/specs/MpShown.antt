@@ -1,6 +1,6 @@
 -- What an MP attribute that was read is to a contract.
 use Rattle.std.specs.Prelude.{ℕ, List, Option}
-use Rattle.bgp_prefix.specs.declared.family.Family.{Family}
+use Rattle.bgp_open.specs.Family.{Family}
 use Rattle.bgp_open.specs.declared.route_form.RouteForm.{RouteForm}
 use Rattle.bgp_attr.specs.declared.types.AttrType.{AttrType}
 use Rattle.bgp_attr.specs.declared.types.AttrType.TheVariants as types

@@ -3,11 +3,11 @@ use Rattle.std.specs.Prelude.{◌≡◌, ◌↔◌, ◌++◌, ℕ, ◌+◌, ◌=
 use Rattle.std.specs.Prelude.{if◌then◌else◌, length, take, drop, slice_index, Option, None, Some}
 use Rattle.std.specs.Option.{option_map}
 use Rattle.byteorder.specs.Endian.{big_number}
-use Rattle.bgp_prefix.specs.declared.family.Family.{Family}
-use Rattle.bgp_prefix.specs.declared.family.Family.TheVariants as families
+use Rattle.bgp_open.specs.Family.{Family}
+use Rattle.bgp_open.specs.Family.TheVariants as families
 use Rattle.bgp_open.specs.declared.route_form.RouteForm.{RouteForm}
-use Rattle.bgp_path.specs.declared.path.NextHop.{NextHop}
-use Rattle.bgp_path.specs.declared.path.NextHop.TheVariants as hops
+use Rattle.bgp_attr.specs.NextHop.{NextHop}
+use Rattle.bgp_attr.specs.NextHop.TheVariants as hops
 use Rattle.bgp_update.specs.declared.destination.Destination.{Destination}
 use Rattle.bgp_update.specs.Destinations.{AreDestinations, destinations_of, is_identified}
 

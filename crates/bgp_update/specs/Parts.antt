@@ -1,7 +1,7 @@
 -- The parts of an UPDATE (RFC 4271, 4.3): destinations that are withdrawn, path attributes, and
 -- destinations that are announced.
 use Rattle.std.specs.Prelude.{◌≡◌, ℕ, List, None}
-use Rattle.bgp_prefix.specs.declared.family.Family.TheVariants.{V4}
+use Rattle.bgp_open.specs.Family.TheVariants.{V4}
 use Rattle.bgp_open.specs.declared.route_form.RouteForm.{RouteForm}
 use Rattle.bgp_attr.specs.Field.{Attribute}
 use Rattle.bgp_attr.specs.Split.{split_of}

@@ -1,7 +1,7 @@
 -- Destinations without path identifiers: what prefixes are on a session without ADD-PATH (RFC
 -- 7911).
 use Rattle.std.specs.Prelude.{List, None, map}
-use Rattle.bgp_prefix.specs.Prefix.{PrefixBits}
+use Rattle.bgp_open.specs.Prefix.{PrefixBits}
 use Rattle.bgp_update.specs.declared.destination.Destination.{Destination}
 
 -- the prefix alone

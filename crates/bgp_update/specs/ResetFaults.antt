@@ -1,7 +1,7 @@
 -- The faults of an UPDATE for which the session has to be reset, or may be (RFC 4271, 6.3; RFC
 -- 7606, 3 to 5). Where those can be read in two ways, the words are this project's profile.
 use Rattle.std.specs.Prelude.{◌≡◌, ◌≢◌, ◌≤◌, ◌⊎◌, ℕ, [], Option, None, Some, IsTrue, IsNone}
-use Rattle.bgp_prefix.specs.declared.family.Family.{Family}
+use Rattle.bgp_open.specs.Family.{Family}
 use Rattle.bgp_attr.specs.declared.field.Tail.{Tail}
 use Rattle.bgp_attr.specs.declared.field.Tail.TheVariants.{ShortHeader, Overrun}
 use Rattle.bgp_update.specs.Found.{Found}

@@ -2,7 +2,7 @@
 -- prefixes.
 use Rattle.std.specs.Prelude.{◌≡◌, ◌<◌, ◌^◌, ◌++◌, ℕ, List, length}
 use Rattle.byteorder.specs.Endian.{big_bytes}
-use Rattle.bgp_wire.specs.Message.{IsMessage, body_of}
+use Rattle.bgp_attr.specs.Message.{IsMessage, body_of}
 
 -- the octets of the three fields
 pub record Sections : Type 0 where

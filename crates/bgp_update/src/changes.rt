@@ -35,10 +35,8 @@ use crate::link_side::side;
 use crate::mp::MpState;
 use crate::outcomes::{Changes, Put};
 use crate::survey::Survey;
-use bgp_attr::{AttrType, FirstAttrs, Side, read_path};
-use bgp_open::Link;
-use bgp_path::NextHop;
-use bgp_prefix::Family;
+use bgp_attr::{AttrType, FirstAttrs, NextHop, Side, read_path};
+use bgp_open::{Family, Link};
 use byteorder::{BigEndian, ByteOrder};
 use std::alloc::{AllocError, Allocator};
 

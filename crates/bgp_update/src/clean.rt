@@ -2,8 +2,8 @@
 
 ghost use Rattle.std.specs.Prelude.{◌≡◌, ◌≢◌, ◌↔◌, ◌⊎◌, [], ℕ, Some, IsTrue};
 ghost use Rattle.bgp_open.specs.Families.{contains};
-ghost use Rattle.bgp_prefix.specs.declared.family.Family.{Family};
-ghost use Rattle.bgp_prefix.specs.declared.family.Family.TheVariants.{V4};
+ghost use Rattle.bgp_open.specs.Family.{Family};
+ghost use Rattle.bgp_open.specs.Family.TheVariants.{V4};
 ghost use Rattle.bgp_update.specs.Clean.{
   IsClean,
   IsCleanBy,
@@ -21,10 +21,8 @@ ghost use Rattle.bgp_update.specs.Surveyed.{found_by};
 use crate::fields::split_update;
 use crate::mp::MpState;
 use crate::survey::{Survey, survey_of};
-use bgp_attr::FirstAttrs;
-use bgp_open::Link;
-use bgp_prefix::Family;
-use bgp_wire::{Limit, MessageType};
+use bgp_attr::{FirstAttrs, Limit, MessageType};
+use bgp_open::{Family, Link};
 
 /// Returns how many octets an UPDATE may have at most that is sent over the link: 65535 if the peer
 /// offers extended messages (RFC 8654, 4), else 4096 (RFC 4271, 4.1).

@@ -15,8 +15,7 @@ ghost use Rattle.bgp_update.specs.Field.{field_destinations};
 ghost use Rattle.bgp_update.specs.Listed.{listed};
 
 use crate::destination::{Destination, PathId};
-use bgp_open::RouteForm;
-use bgp_prefix::{Family, Prefix};
+use bgp_open::{Family, Prefix, RouteForm};
 use byteorder::{BigEndian, ByteOrder};
 use std::alloc::{AllocError, Allocator};
 use std::marker::Model;

@@ -2,13 +2,12 @@
 
 ghost use Rattle.std.specs.Prelude.{◌↔◌, IsTrue};
 ghost use Rattle.bgp_open.specs.Families.{contains};
-ghost use Rattle.bgp_prefix.specs.declared.family.Family.{Family};
+ghost use Rattle.bgp_open.specs.Family.{Family};
 ghost use Rattle.bgp_update.specs.Disabled.{IsCertain, IsOptional};
 ghost use Rattle.bgp_update.specs.Surveyed.{found_by};
 
 use crate::survey::Survey;
-use bgp_open::Families;
-use bgp_prefix::Family;
+use bgp_open::{Families, Family};
 
 impl Survey<'_> {
     /// Checks whether each Apply disables the family.

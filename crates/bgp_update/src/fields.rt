@@ -11,7 +11,7 @@ ghost use Rattle.bgp_update.specs.Counted.{IsCounted, LacksCounted};
 ghost use Rattle.bgp_update.specs.Fields.{sections_of};
 ghost use Rattle.bgp_update.specs.Sections.{IsUpdate, IsMalformed};
 
-use bgp_wire::{MessageType, message_body};
+use bgp_attr::{MessageType, message_body};
 use byteorder::{BigEndian, ByteOrder};
 
 /// The octets of the fields.

@@ -34,6 +34,11 @@ mod subcodes;
 mod survey;
 mod withdraw_faults;
 
+pub use bgp_attr::{Attr, Attrs};
+pub use bgp_open::{
+    Capabilities, Capability, Families, Notification, Open, OpenFault, RouteForm,
+    read_notification, read_open,
+};
 pub use clean::{is_clean, most_octets};
 pub use destination::{Destination, PathId};
 pub use destinations::{DestinationField, Destinations};

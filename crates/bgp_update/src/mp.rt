@@ -18,10 +18,8 @@ ghost use Rattle.bgp_update.specs.Listed.{listed};
 
 use crate::destinations::DestinationField;
 use crate::mp_parts::{family_with, split_reach};
-use bgp_attr::{Attr, AttrType};
-use bgp_open::{Families, RouteForm};
-use bgp_path::NextHop;
-use bgp_prefix::Family;
+use bgp_attr::{Attr, AttrType, NextHop};
+use bgp_open::{Families, Family, RouteForm};
 use byteorder::{BigEndian, ByteOrder};
 
 /// One of the two types.

@@ -16,7 +16,7 @@ ghost use Rattle.bgp_update.specs.Surveyed.{mp_found_by};
 
 use crate::mp::MpState;
 use crate::survey::MpSurvey;
-use bgp_prefix::Family;
+use bgp_open::Family;
 
 impl MpState<'_> {
     /// Checks whether its family isn't in use, or is neither IPv4 nor IPv6 unicast.

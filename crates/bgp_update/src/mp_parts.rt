@@ -11,7 +11,7 @@ ghost use Rattle.std.specs.Option.{option_map};
 ghost use Rattle.bgp_update.specs.MpParts.{reach_fields, reach_of, unreach_fields, unreach_of};
 ghost use Rattle.bgp_update.specs.MpValue.{family_with};
 
-use bgp_prefix::Family;
+use bgp_open::Family;
 use byteorder::{BigEndian, ByteOrder};
 
 /// The Subsequent Address Family Identifier of unicast.

@@ -2,8 +2,8 @@
 
 use crate::destination::Destination;
 use crate::subcodes::Subcodes;
+use bgp_attr::Path;
 use bgp_open::Families;
-use bgp_path::Path;
 use std::alloc::{Allocator, Global};
 
 /// Destinations that become reachable by one path, which they share.

@@ -7,8 +7,7 @@ ghost use Rattle.bgp_update.specs.Parts.{LacksParts, SpellsParts, parts_of};
 use crate::destinations::Destinations;
 use crate::fields::split_update;
 use bgp_attr::Attrs;
-use bgp_open::RouteForm;
-use bgp_prefix::Family;
+use bgp_open::{Family, RouteForm};
 
 /// The parts of an UPDATE, each in wire order.
 #[derive(Debug, Drop)]

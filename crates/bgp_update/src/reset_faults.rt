@@ -24,7 +24,7 @@ use crate::mp::MpState;
 use crate::subcodes::Subcodes;
 use crate::survey::{MpSurvey, Survey};
 use bgp_attr::Tail;
-use bgp_prefix::Family;
+use bgp_open::Family;
 
 impl Survey<'_> {
     /// Checks the rule "bad prefix field".

@@ -15,8 +15,7 @@ use crate::link_side::side;
 use crate::mp::{MpState, MpType, has_other_bits, mp_state};
 use crate::pass::{Pass, is_repeated, pass_over};
 use bgp_attr::{FirstAttrs, Tail};
-use bgp_open::{Link, RouteForm};
-use bgp_prefix::Family;
+use bgp_open::{Family, Link, RouteForm};
 
 /// An MP attribute, by its first occurrence.
 #[derive(Clone, Copy)]

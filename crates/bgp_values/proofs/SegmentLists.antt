@@ -2,9 +2,9 @@
 use Rattle.std.proofs.Common.{◌≡◌, ◌∙◌, ◌<◌, ◌≤◌, ◌∷◌, ◌==◌, ℕ, zero, suc, List, [], true, false, refl, sym, ap, length, drop, arith, inl, inr}
 use Rattle.std.proofs.lemmas.Bool.{cases_Bool}
 use Rattle.std.proofs.lemmas.List.{length-drop, nil_from_length}
-use Rattle.bgp_attr.specs.PathIn.{segment_at}
-use Rattle.bgp_attr.specs.Segments.{WireSegment, are_segments, has_segment, segment_len}
-use Rattle.bgp_attr.proofs.WholeSegments.{has, segments_end, segments_stop}
+use Rattle.bgp_update.specs.PathIn.{segment_at}
+use Rattle.bgp_update.specs.Segments.{WireSegment, are_segments, has_segment, segment_len}
+use Rattle.bgp_update.proofs.WholeSegments.{has, segments_end, segments_stop}
 use Rattle.bgp_values.specs.PathSegments.{segments_in, segments_of}
 
 -- no segment stands in no octets

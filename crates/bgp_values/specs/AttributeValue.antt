@@ -3,7 +3,7 @@
 use Rattle.std.specs.Prelude.{◌==◌, ◌&&◌, ◌||◌, nat_le, ℕ, Bool, true, List, ◌+◌, Option, None}
 use Rattle.std.specs.Prelude.{Some, if◌then◌else◌, length, drop, slice_index}
 use Rattle.byteorder.specs.Endian.{big_number}
-use Rattle.bgp_attr.specs.Segments.{WireSegment, are_segments, number_width}
+use Rattle.bgp_update.specs.Segments.{WireSegment, are_segments, number_width}
 use Rattle.bgp_values.specs.PathSegments.{segments_of}
 use Rattle.bgp_values.specs.Pieces.{are_some_pieces}
 use Rattle.bgp_values.specs.Items.{item_size, items_of}

@@ -8,3 +8,5 @@ pub mod PathSegments
 pub mod AttributeValue
 pub mod RoutesValue
 pub mod Opens
+pub use Rattle.bgp_update.specs.Destinations
+pub use Rattle.bgp_update.specs.declared.destination.Destination

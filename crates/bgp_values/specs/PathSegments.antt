@@ -1,7 +1,7 @@
 -- The segments of AS_PATH and AS4_PATH (RFC 4271, 4.3 b; RFC 5065, 3; RFC 6793, 3), in wire order.
 use Rattle.std.specs.Prelude.{ℕ, zero, suc, List, [], ◌∷◌, length, drop, if◌then◌else◌}
-use Rattle.bgp_attr.specs.PathIn.{segment_at}
-use Rattle.bgp_attr.specs.Segments.{WireSegment, has_segment, segment_len}
+use Rattle.bgp_update.specs.PathIn.{segment_at}
+use Rattle.bgp_update.specs.Segments.{WireSegment, has_segment, segment_len}
 use Rattle.bgp_values.specs.declared.segments.Segment.{Segment}
 
 -- the segments of types 1 to 4 at the front of octets, none of them empty, at most n of them

@@ -17,6 +17,7 @@ mod routes_value;
 mod segments;
 
 pub use attribute_value::AttributeValue;
+pub use bgp_update::{Destination, Destinations, PathId};
 pub use capability_value::CapabilityValue;
 pub use error_data::{ErrorData, cause_of};
 pub use items::{Item, has_bits};

@@ -9,8 +9,8 @@
 
 ghost use Rattle.std.specs.Prelude.{◌≡◌, ◌==◌, ◌<◌, ◌≤◌, ◌∷◌, [], true, false};
 ghost use Rattle.std.specs.Prelude.{IfNone, IfSome, drop, length, slice_index};
-ghost use Rattle.bgp_attr.specs.PathIn.{segment_at};
-ghost use Rattle.bgp_attr.specs.Segments.{are_segments, has_segment, number_width, segment_len};
+ghost use Rattle.bgp_update.specs.PathIn.{segment_at};
+ghost use Rattle.bgp_update.specs.Segments.{are_segments, has_segment, number_width, segment_len};
 ghost use Rattle.bgp_values.specs.PathSegments.{segment_of, segments_of};
 
 /// AS_CONFED_SET, the last of the segment types (RFC 5065, 3).

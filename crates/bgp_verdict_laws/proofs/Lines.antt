@@ -16,7 +16,7 @@ use Rattle.bgp_machine.specs.declared.fsm.Fsm.TheVariants as states
 use Rattle.bgp_names.specs.States.{state_name}
 use Rattle.bgp_text.specs.Capture.{refused_line}
 use Rattle.bgp_values.specs.declared.opens.Direction.{Direction}
-use Rattle.bgp_tool.specs.VerdictText.{families_by, state_text}
+use Rattle.bgp_json_laws.specs.VerdictText.{families_by, state_text}
 use Rattle.bgp_import.specs.ListText.{end_of, end_text, opening_text, other_side}
 use Rattle.bgp_import.specs.Refusals.{place_text, reason_text, refusal_line, refusal_name, refusal_number, refusal_packet, refusal_place}
 use Rattle.bgp_import.specs.declared.refusal.Refusal.{Refusal}

@@ -19,7 +19,7 @@ use Rattle.bgp_path.specs.declared.path.Origin.TheVariants as origins
 use Rattle.bgp_update.specs.declared.destination.Destination.{Destination}
 use Rattle.bgp_text.specs.RouteText.{aggregator_text, as_path_text, cluster_text, community_text, extended_text, kind_text, list_text, next_hop_text, number_text, optional_text, origin_number, route_text, router_text, segment_text}
 use Rattle.bgp_text.specs.Text.{destination_text, path_id_text}
-use Rattle.bgp_tool.specs.VerdictText.{route_line}
+use Rattle.bgp_json_laws.specs.VerdictText.{route_line}
 use Rattle.bgp_json_values.specs.Objects.{array_of, in_array, number_of}
 use Rattle.bgp_json_values.specs.RoutesJson.{destination_json, hop_json}
 use Rattle.bgp_json_verdicts.specs.Objects.{of_end}

@@ -5,8 +5,8 @@ use Rattle.bgp_text.specs.Lines.{Writes}
 use Rattle.bgp_text.specs.declared.lines.Lines.{Lines}
 use Rattle.bgp_text.proofs.Fresh.{IsFresh, all_taken}
 use Rattle.bgp_text.proofs.Pieces.{Joins, and_nothing}
-use Rattle.bgp_tool.specs.Answer.{IsWritten}
-use Rattle.bgp_tool.proofs.CaptureJudged.{is_written}
+use Rattle.bgp_json_verdicts.specs.Answer.{IsWritten}
+use Rattle.bgp_json_verdicts.proofs.CaptureJudged.{is_written}
 use Rattle.bgp_json_verdicts.specs.Telling.{told_status}
 use Rattle.bgp_json_verdicts.specs.declared.telling.Telling.{Telling}
 use Rattle.bgp_verdict_lines.specs.Lines.{PutsLines}

@@ -18,8 +18,8 @@ use Rattle.bgp_open.specs.declared.route_offer.RouteOffer.{RouteOffer}
 use Rattle.bgp_path.specs.Path.{PathValue}
 use Rattle.bgp_update.specs.declared.destination.Destination.{Destination}
 use Rattle.bgp_clock.specs.When.{clock_text, when_text}
-use Rattle.bgp_tool.specs.VerdictText.{end_text, families_text, no_line, route_line, state_text, verdict_text}
-use Rattle.bgp_why_parts.specs.Codes.{full_code_text}
+use Rattle.bgp_json_verdicts.specs.VerdictText.{end_text, families_text, no_line, route_line, state_text, verdict_text}
+use Rattle.bgp_why.specs.WhyPartsCodes.{full_code_text}
 use Rattle.bgp_why.specs.Items.{all_items, first_word, those_possible}
 use Rattle.bgp_why.specs.NoteLines.{note_line, note_lines, note_said, shown_notes, without_line, without_note}
 use Rattle.bgp_why.specs.Place.{place_at, place_text, record_text}

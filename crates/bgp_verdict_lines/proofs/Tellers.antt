@@ -5,7 +5,7 @@ use Rattle.mrt.specs.declared.sink.Sink as sinks
 use Rattle.bgp_text.specs.Lines.{Writes}
 use Rattle.bgp_text.specs.declared.lines.Lines.{Lines}
 use Rattle.bgp_text.proofs.Pieces.{Joins, and_then, nothing_yet}
-use Rattle.bgp_tool.specs.Answer.{IsWritten}
+use Rattle.bgp_json_verdicts.specs.Answer.{IsWritten}
 use Rattle.bgp_json_verdicts.specs.Lines.{LineValue, line_text}
 use Rattle.bgp_json_verdicts.specs.Objects.{no_counts, objects_from, objects_of}
 use Rattle.bgp_verdict_lines.specs.Printed.{IsToldInJson, IsWrittenIn}

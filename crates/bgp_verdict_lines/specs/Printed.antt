@@ -1,7 +1,7 @@
 -- What is written of a text in either form.
 use Rattle.std.specs.Prelude.{◌≡◌, ◌⊎◌, ℕ, List}
 use Rattle.std.specs.List.{flat_map}
-use Rattle.bgp_tool.specs.Answer.{IsWritten}
+use Rattle.bgp_json_verdicts.specs.Answer.{IsWritten}
 use Rattle.bgp_json_verdicts.specs.Lines.{LineValue, line_text}
 use Rattle.bgp_json_verdicts.specs.Objects.{objects_of}
 use Rattle.bgp_json_verdicts.specs.Telling.{ArePutInPart, AreValues, lines_of}

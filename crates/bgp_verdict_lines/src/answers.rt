@@ -5,10 +5,10 @@ ghost use Rattle.bgp_import.specs.ListText.{opening_text};
 ghost use Rattle.bgp_import.specs.Refusals.{refusal_line};
 ghost use Rattle.bgp_text.specs.Capture.{refused_line};
 ghost use Rattle.bgp_text.specs.Lines.{Writes};
-ghost use Rattle.bgp_tool.specs.Answer.{answer_status, answer_text};
-ghost use Rattle.bgp_tool.specs.CaptureDecoding.{status_by};
-ghost use Rattle.bgp_tool.specs.Status.{code_of};
-ghost use Rattle.bgp_tool.specs.VerdictText.{unfinished_line, verdict_text};
+ghost use Rattle.bgp_json_verdicts.specs.Answer.{answer_status, answer_text};
+ghost use Rattle.bgp_json_verdicts.specs.CaptureDecoding.{status_by};
+ghost use Rattle.bgp_json_verdicts.specs.Status.{code_of};
+ghost use Rattle.bgp_json_verdicts.specs.VerdictText.{unfinished_line, verdict_text};
 ghost use Rattle.bgp_json_verdicts.specs.Lines.{Answers, line_text};
 ghost use Rattle.bgp_json_verdicts.specs.declared.answer.Answer.TheVariants as answers;
 ghost use Rattle.bgp_verdict_lines.specs.Lines.{PutsLines};
@@ -16,11 +16,10 @@ ghost use Rattle.bgp_verdict_lines.specs.Lines.{PutsLines};
 use crate::teller::VerdictTeller;
 use crate::verdict_lines::VerdictLines;
 use bgp_import::Refusal;
-use bgp_json_verdicts::{Answer, VerdictLine};
+use bgp_json_verdicts::{Answer, Status, VerdictLine};
 use bgp_judge::Verdict;
 use bgp_prefix::Session;
 use bgp_text::{Lines, put_refused};
-use bgp_tool::Status;
 use mrt::{CaptureFault, FaultKind, Sink};
 use std::alloc::Allocator;
 use streams::Opening;
@@ -33,7 +32,7 @@ pub fn put_verdict<A: Allocator + Copy, B: Allocator, W: Sink>(
     ensures { PutsLines lines.old lines.new (verdict_text verdict.now) }
 {
     match &mut lines.teller {
-        VerdictTeller::Text => bgp_tool::put_verdict(&mut lines.lines, verdict),
+        VerdictTeller::Text => bgp_json_verdicts::put_verdict(&mut lines.lines, verdict),
         VerdictTeller::Json(telling) => {
             telling.put_verdict(&mut lines.lines, lines.alloc, verdict);
         }

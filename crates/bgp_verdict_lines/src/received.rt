@@ -1,7 +1,7 @@
 //! The object of the message that was received last.
 
 ghost use Rattle.std.specs.Prelude.{◌≡◌, ◌∷◌, [], List, ℕ, IfOk, map};
-ghost use Rattle.bgp_parts.specs.UpdateParts.{shown_part};
+ghost use Rattle.bgp_why.specs.UpdateParts.{shown_part};
 ghost use Rattle.bgp_why.specs.Applying.{update_asks};
 ghost use Rattle.bgp_why.specs.Asked.{asked_text};
 ghost use Rattle.bgp_why.specs.Message.{name_text};

@@ -1,12 +1,11 @@
 //! Verdicts one after another, in either form.
 
 ghost use Rattle.std.specs.Prelude.{◌≡◌};
-ghost use Rattle.bgp_tool.specs.Status.{code_of};
+ghost use Rattle.bgp_json_verdicts.specs.Status.{code_of};
 ghost use Rattle.bgp_verdict_lines.specs.Teller.{Starts, StartsBehind, teller_status};
 
 use crate::form::VerdictForm;
-use bgp_json_verdicts::Telling;
-use bgp_tool::Status;
+use bgp_json_verdicts::{Status, Telling};
 
 /// Tells verdicts one after another, in one form.
 #[derive(Clone, Copy)]

@@ -1,9 +1,9 @@
 //! Texts in memory, as the lines have them that are printed without `--json`.
 
 ghost use Rattle.std.specs.Prelude.{◌≡◌, ℕ, List, IfOk, OnOk, IsOk, map, take};
-ghost use Rattle.bgp_parts.specs.UpdateParts.{shown_part};
+ghost use Rattle.bgp_why.specs.UpdateParts.{shown_part};
 ghost use Rattle.mrt.specs.MemSink.{sink_state};
-ghost use Rattle.bgp_why_parts.specs.Cut.{cut};
+ghost use Rattle.bgp_why.specs.Cut.{cut};
 ghost use Rattle.bgp_why.specs.Applying.{update_asks};
 ghost use Rattle.bgp_why.specs.Asked.{asked_text};
 ghost use Rattle.bgp_why.specs.Items.{item_text};
@@ -14,10 +14,9 @@ ghost use Rattle.bgp_why.specs.NoteLines.{note_text};
 use bgp_prefix::Seconds;
 use bgp_text::Lines;
 use bgp_why::{
-    Asked, AskedUpdate, Item, Lacks, MessageName, Note, Style, put_asked, put_but, put_item,
-    put_name, put_note_text, put_update_asks,
+    Asked, AskedUpdate, Item, Lacks, MessageName, Note, Style, put_asked, put_but, put_cut,
+    put_item, put_name, put_note_text, put_update_asks,
 };
-use bgp_why_parts::put_cut;
 use mrt::{Failed, MemSink};
 use std::alloc::{AllocError, Allocator};
 

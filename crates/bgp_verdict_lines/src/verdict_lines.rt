@@ -2,13 +2,13 @@
 
 ghost use Rattle.std.specs.Prelude.{◌≡◌, ◌<◌, ◌⊎◌, [], IsFalse, IsTrue, OnErr, OnOk};
 ghost use Rattle.bgp_text.specs.Lines.{Writes};
-ghost use Rattle.bgp_tool.specs.Status.{code_of};
+ghost use Rattle.bgp_json_verdicts.specs.Status.{code_of};
 ghost use Rattle.bgp_verdict_lines.specs.Teller.{Starts, StartsBehind, teller_status};
 
 use crate::form::VerdictForm;
 use crate::teller::VerdictTeller;
+use bgp_json_verdicts::{Status, hand_over};
 use bgp_text::Lines;
-use bgp_tool::{Status, hand_over};
 use mrt::{Failed, Sink};
 use std::alloc::Allocator;
 

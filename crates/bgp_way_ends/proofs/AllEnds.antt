@@ -1,21 +1,18 @@
 -- The ends of a whole way are all ends of its exchange, and those that a yes lists all of its connection.
-use Rattle.std.proofs.Common.{◌≡◌, ◌∙◌, ◌⊎◌, ◌↔◌, ℕ, List, [], ◌∷◌, length, Option, Some, MatchOption, inl, inr, refl, sym, ap, subst, map}
+use Rattle.std.proofs.Common.{◌≡◌, ◌∙◌, ℕ, List, [], ◌∷◌, length, Option, MatchOption, inl, inr, refl, sym, ap, subst, map}
 use Rattle.std.specs.List.{AllByRecursion}
 use Rattle.bgp_prefix.specs.Shown as shown
 use Rattle.bgp_prefix.specs.Shown.{ShownRecord}
 use Rattle.streams.specs.declared.connection.Connection.{Connection}
-use Rattle.streams.specs.declared.connection.End.{End as TheEnd}
 use Rattle.streams.specs.declared.passed.Side.{Side}
 use Rattle.streams.specs.declared.passed.Side.TheVariants as sides
 use Rattle.bgp_wire.specs.Header.{header_of, type_of}
 use Rattle.bgp_wire.specs.Framing.{IsFrame}
 use Rattle.bgp_wire.specs.Verdict.{type_code}
 use Rattle.bgp_wire.specs.declared.header.MessageType.{MessageType}
-use Rattle.bgp_wire.specs.declared.header.MessageType.TheVariants as types
 use Rattle.bgp_open.specs.declared.config.Config.{Config}
 use Rattle.bgp_machine.specs.Lists.{Each, Has}
 use Rattle.bgp_machine.specs.Run.{End, IsComplete}
-use Rattle.bgp_recording.specs.declared.entry.Entry.{Entry}
 use Rattle.bgp_recording.specs.declared.framing.Framing.{Framing}
 use Rattle.bgp_recording.specs.declared.framing.Framings.{Framings}
 use Rattle.bgp_recording.specs.declared.framing.Unshown.{Unshown}
@@ -29,25 +26,22 @@ use Rattle.bgp_recording.specs.Pieces.{IsFaultyOf}
 use Rattle.bgp_recording.specs.Gathered.{IsClocked, IsHeard, IsSaid}
 use Rattle.bgp_recording.specs.Moments.{end_moment}
 use Rattle.bgp_recording.specs.Once.{AreSame}
-use Rattle.bgp_recording.specs.Recorded.{IsRecorded}
 use Rattle.bgp_recording.specs.States.{state_number}
-use Rattle.bgp_recording.specs.Tells.{Numbered, numbered_of}
+use Rattle.bgp_recording.specs.Tells.{Numbered}
 use Rattle.bgp_recording.specs.Values.{MessageValue, values_of}
 use Rattle.bgp_recording.proofs.Heard.{own_end_is}
 use Rattle.bgp_ended.proofs.OneFraming.{IsTimed, are_timed, end_by, heard_once, said_once}
 use Rattle.bgp_judge.specs.Chains.{EndsByChains}
-use Rattle.bgp_judge.specs.Ends.{ListsEnds}
 use Rattle.bgp_judge.specs.Told.{EachRunIsAsTold}
 use Rattle.bgp_orders.specs.Connections.{TellsConnection}
 use Rattle.bgp_orders.specs.Entries.{EntriesShowTheWay}
-use Rattle.bgp_orders.specs.Explained.{IsWhole}
-use Rattle.bgp_orders.specs.WholeWays.{AreOfAWayOver, CanHaveEnded}
+use Rattle.bgp_orders.specs.WholeWays.{CanHaveEnded}
 use Rattle.bgp_orders.specs.Ways.{records_of_way}
 use Rattle.bgp_orders.proofs.Ways.{same_records}
 use Rattle.bgp_way_ends.specs.Connections.{ListsState, MadeOrderListsAllEnds, WayListsAllEnds}
-use Rattle.bgp_way_ends.specs.OneState.{EachWholeWayTellsAllEnds, HasTypes, IsTyped, WholeWaysEndInOneState}
+use Rattle.bgp_way_ends.specs.OneState.{EachWholeWayTellsAllEnds, IsTyped, WholeWaysEndInOneState}
 use Rattle.bgp_way_ends.specs.EveryEnd.{MadeYesListsEveryEnd, WayYesListsEveryEnd}
-use Rattle.bgp_way_ends.specs.WayEnds.{EndsSo, OneWayTellsAllEnds, WholeWay}
+use Rattle.bgp_way_ends.specs.WayEnds.{OneWayTellsAllEnds, WholeWay}
 use Rattle.bgp_way_ends.proofs.Connections.{map_map}
 use Rattle.bgp_way_ends.proofs.Ended.{Begins, kinds_of}
 use Rattle.bgp_way_ends.proofs.OneState.{AreTyped}

@@ -1,5 +1,5 @@
 -- A yes on a connection lists all ends in its states.
-use Rattle.std.proofs.Common.{◌≡◌, ◌∙◌, ◌↔◌, ℕ, List, [], ◌∷◌, inl, inr, refl, sym, ap, subst, map}
+use Rattle.std.proofs.Common.{◌≡◌, ◌∙◌, ℕ, List, [], ◌∷◌, inl, inr, refl, sym, ap, subst, map}
 use Rattle.bgp_prefix.specs.Shown as shown
 use Rattle.bgp_prefix.specs.Shown.{ShownRecord}
 use Rattle.mrt.specs.Reader.{shown_of}
@@ -21,10 +21,8 @@ use Rattle.bgp_recording.specs.Tells.{Numbered, numbered_of}
 use Rattle.bgp_recording.specs.Values.{MessageValue, values_of}
 use Rattle.bgp_ended.proofs.OneFraming.{are_timed, heard_once}
 use Rattle.bgp_judge.specs.Chains.{EndsByChains}
-use Rattle.bgp_judge.specs.Ends.{ListsEnds}
 use Rattle.bgp_judge.specs.Told.{EachRunIsAsTold}
 use Rattle.bgp_orders.specs.Entries.{EntriesShowTheWay}
-use Rattle.bgp_orders.specs.WholeWays.{CanHaveEnded}
 use Rattle.bgp_orders.specs.Ways.{records_of_way}
 use Rattle.bgp_orders.proofs.Ways.{same_records}
 use Rattle.bgp_way_ends.specs.Connections.{ListsState, MadeOrderListsAllEnds, WayListsAllEnds}

@@ -1,5 +1,5 @@
 -- The state in which a way with an end of the connection ends.
-use Rattle.std.proofs.Common.{◌≡◌, ◌∙◌, ◌⊎◌, ◌++◌, ℕ, Bool, true, false, List, [], ◌∷◌, Option, None, Some, inl, inr, refl, sym, ap, map}
+use Rattle.std.proofs.Common.{◌≡◌, ◌∙◌, ◌⊎◌, ◌++◌, ℕ, true, false, List, [], ◌∷◌, Option, None, Some, inl, inr, refl, sym, ap, map}
 use Rattle.std.specs.List.{AllByRecursion}
 use Rattle.streams.specs.declared.connection.End.{End}
 use Rattle.bgp_wire.specs.declared.header.MessageType.{MessageType}

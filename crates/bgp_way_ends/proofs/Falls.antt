@@ -24,7 +24,6 @@ use Rattle.bgp_machine.specs.declared.hearing.Heard.{Heard}
 use Rattle.bgp_machine.specs.declared.hearing.Heard.TheVariants.{Keepalive, Update, ValidOpen}
 use Rattle.bgp_machine.specs.declared.rows.ReceivedRow.{ReceivedRow}
 use Rattle.bgp_machine.specs.declared.rows.ReceivedRow.TheVariants.{Ignores}
-use Rattle.bgp_machine.specs.Want.{Meets}
 use Rattle.bgp_machine.proofs.Quiet.{quiet}
 use Rattle.bgp_judge.specs.Chains.{Reaches}
 use Rattle.bgp_judge.specs.Member.{IsFree, Member}
@@ -34,7 +33,7 @@ use Rattle.bgp_judge.proofs.KeptSteps.{own_opens}
 use Rattle.bgp_way_ends.proofs.Chains.{LeavesNoIdle, heard_in, idle_next, idle_own, idle_stays, idle_head, of_each, silent_phase, up_by_phase, down_head}
 use Rattle.bgp_way_ends.proofs.Hearing.{Goes, a_keepalive, goes, is_keepalive}
 use Rattle.bgp_way_ends.proofs.Phases.{Before, Confirmed, Down, IsUp, Phase, Stays, Up, hidden_stays, phase_of}
-use Rattle.bgp_way_ends.proofs.Sending.{AllUp, FallsWith, HeardFalls, IsLastWant, IsNotice, IsUnopened, IsUpWant, UpHeard, UpRow, fall_heard, fall_row, met_last, met_up, up_heard, up_row}
+use Rattle.bgp_way_ends.proofs.Sending.{AllUp, IsLastWant, IsNotice, IsUnopened, UpHeard, UpRow, fall_heard, fall_row, met_last, met_up, up_heard, up_row}
 
 -- ---- silence doesn't open
 
@@ -55,7 +54,7 @@ quiet_openings config (OpenSent timer) = (refl, tt)
 quiet_openings config (OpenConfirm link timer) = (refl, tt)
 quiet_openings config (Established link timer) = (refl, tt)
 
-silent_opening : (config : Config) (s e : SessionState) → Silent config s e → opening e.head ≡ opening s.head
+pub silent_opening : (config : Config) (s e : SessionState) → Silent config s e → opening e.head ≡ opening s.head
 silent_opening config s e silent =
     of_each (λ x. opening x ≡ opening s.head) (silent_heads config s.head) e.head (quiet_openings config s.head)
     (quiet config silent.steps s e silent.are_steps silent.shows).1

@@ -1,34 +1,26 @@
 -- All whole ways of an exchange end in one state.
-use Rattle.std.proofs.Common.{◌≡◌, ◌∙◌, ◌⊎◌, ◌++◌, ℕ, Bool, true, false, List, [], ◌∷◌, Option, None, Some, inl, inr, refl, sym, ap, subst, map}
+use Rattle.std.proofs.Common.{◌≡◌, ◌∙◌, ◌⊎◌, ◌++◌, ℕ, Bool, true, false, List, [], ◌∷◌, Option, None, Some, inl, inr, refl, sym, ap}
 use Rattle.std.specs.List.{AllByRecursion}
 use Rattle.bgp_prefix.specs.Shown as shown
 use Rattle.bgp_prefix.specs.Shown.{ShownRecord}
 use Rattle.streams.specs.declared.connection.End.{End as TheEnd}
 use Rattle.bgp_wire.specs.declared.header.MessageType.{MessageType}
 use Rattle.bgp_wire.specs.declared.header.MessageType.TheVariants as types
-use Rattle.bgp_open.specs.declared.config.Config.{Config}
 use Rattle.bgp_machine.specs.declared.fsm.Fsm.{Fsm}
 use Rattle.bgp_machine.specs.declared.fsm.Fsm.TheVariants as fsms
-use Rattle.bgp_machine.specs.declared.state.Head.{Head}
-use Rattle.bgp_machine.specs.declared.state.Head.TheVariants.{Idle, Connect, Active, OpenSent, OpenConfirm, Established}
-use Rattle.bgp_machine.specs.Going.{fsm_at}
-use Rattle.bgp_machine.specs.Lists.{Has}
-use Rattle.bgp_machine.specs.Run.{End, IsComplete}
-use Rattle.bgp_machine.specs.State.{fsm_of}
 use Rattle.bgp_recording.specs.declared.message.Message.{Message}
 use Rattle.bgp_recording.specs.declared.standing.Before.{Before as Standing}
 use Rattle.bgp_recording.specs.declared.standing.Before.TheVariants as stand
 use Rattle.bgp_recording.specs.declared.state.State.{State}
 use Rattle.bgp_recording.specs.declared.state.State.TheVariants as states
-use Rattle.bgp_recording.specs.Allowed.{EachMayPrecede, Ended, Item, MayPrecede, Received, Sent, ends_in, received_in, sent_in}
+use Rattle.bgp_recording.specs.Allowed.{Ended, Received, Sent, ends_in, received_in, sent_in}
 use Rattle.bgp_recording.specs.Changes.{are_left, is_answered_before_open, just_received, just_sent, led_by_end, led_by_left, led_by_received, led_by_sent, state_then}
 use Rattle.bgp_recording.specs.States.{state_number}
 use Rattle.bgp_recording.specs.Tells.{Event, Passed, items_in}
-use Rattle.bgp_judge.specs.Told.{Told, fresh_told, told_by_change, told_by_message, told_from, told_next}
+use Rattle.bgp_judge.specs.Told.{Told, fresh_told, told_by_message, told_from, told_next}
 use Rattle.bgp_orders.specs.Ways.{changed_to, records_in, state_after_end}
 use Rattle.bgp_way_ends.specs.OneState.{IsTyped}
 use Rattle.bgp_way_ends.proofs.Falls.{Cause, FallsByCause, RetriesNone, said_in}
-use Rattle.bgp_way_ends.proofs.Sending.{IsNotice}
 use Rattle.bgp_way_ends.proofs.WayEnds.{idle_state, octets_of}
 
 -- ---- the state at last, by the tables of ways

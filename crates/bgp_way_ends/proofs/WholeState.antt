@@ -1,12 +1,10 @@
 -- All whole ways of an exchange end in one state.
-use Rattle.std.proofs.Common.{◌≡◌, ◌∙◌, ◌==◌, ◌⊎◌, ℕ, Bool, true, false, List, [], ◌∷◌, Option, None, Some, if◌then◌else◌, inl, inr, refl, sym, ap, subst}
-use Rattle.std.specs.List.{AllByRecursion}
+use Rattle.std.proofs.Common.{◌≡◌, ◌∙◌, ◌==◌, ◌⊎◌, ℕ, Bool, List, [], ◌∷◌, Option, None, Some, if◌then◌else◌, inl, inr, refl, sym, ap, subst}
 use Rattle.std.proofs.lemmas.Bool.{cases_Bool}
 use Rattle.bgp_prefix.specs.Shown as shown
 use Rattle.bgp_prefix.specs.Shown.{ShownRecord}
 use Rattle.streams.specs.declared.connection.End.{End as TheEnd}
 use Rattle.bgp_open.specs.declared.config.Config.{Config}
-use Rattle.bgp_open.specs.declared.link.Link.{Link}
 use Rattle.bgp_wire.specs.declared.header.MessageType.{MessageType}
 use Rattle.bgp_machine.specs.declared.fsm.Fsm.{Fsm}
 use Rattle.bgp_machine.specs.declared.fsm.Fsm.TheVariants as fsms
@@ -15,7 +13,6 @@ use Rattle.bgp_machine.specs.declared.rows.HiddenRow.TheVariants.{Listens, Notes
 use Rattle.bgp_machine.specs.declared.state.Head.{Head}
 use Rattle.bgp_machine.specs.declared.state.Head.TheVariants.{Idle, Connect, Active, OpenSent, OpenConfirm, Established}
 use Rattle.bgp_machine.specs.declared.want.Want.{Want}
-use Rattle.bgp_machine.specs.Lists.{Has}
 use Rattle.bgp_machine.specs.Run.{End, IsComplete}
 use Rattle.bgp_machine.specs.Shows.{Pays}
 use Rattle.bgp_machine.specs.State.{SessionState, Turn, fsm_of}
@@ -29,18 +26,18 @@ use Rattle.bgp_recording.specs.Changes.{opened_state}
 use Rattle.bgp_recording.specs.States.{state_number}
 use Rattle.bgp_recording.specs.Tells.{Event, Passed, items_in}
 use Rattle.streams.specs.declared.passed.Side.{Side}
-use Rattle.bgp_judge.specs.Chains.{EndsByChains, Reaches}
+use Rattle.bgp_judge.specs.Chains.{EndsByChains}
 use Rattle.bgp_judge.specs.Member.{Member, fresh_member}
 use Rattle.bgp_judge.specs.Next.{Next, Opens}
 use Rattle.bgp_judge.specs.Told.{EachRunIsAsTold, fresh_told, told_next}
 use Rattle.bgp_orders.specs.Ways.{records_in, records_of_way}
-use Rattle.bgp_way_ends.proofs.Chains.{down_head, first_up, heard_in, idle_head, silent_phase}
-use Rattle.bgp_way_ends.proofs.Ended.{Begins, IsAnEnd, ended_final, from_both, kinds_of, only_sent, sent_final}
-use Rattle.bgp_way_ends.proofs.Falls.{Fell, FallsByCause, Good, NoNotices, SomeNotice, change_is, change_keeps, either_idle, either_opened, fell, kind_after, kind_of, last_kind, no_notices, none_before, opened_said, said_in}
+use Rattle.bgp_way_ends.proofs.Chains.{down_head, first_up, heard_in, silent_phase}
+use Rattle.bgp_way_ends.proofs.Ended.{Begins, ended_final, from_both, kinds_of, only_sent, sent_final}
+use Rattle.bgp_way_ends.proofs.Falls.{FallsByCause, Good, NoNotices, SomeNotice, change_is, change_keeps, either_idle, either_opened, fell, kind_after, kind_of, last_kind, no_notices, none_before, opened_said, said_in}
 use Rattle.bgp_way_ends.proofs.Hearing.{is_keepalive}
 use Rattle.bgp_way_ends.proofs.OneState.{AllRetryNone, AreTyped, causes_in, final_in, fsm_by, retries_none, said_way, told_final, told_start}
 use Rattle.bgp_way_ends.proofs.Phases.{Before, IsUp, Phase, phase_of}
-use Rattle.bgp_way_ends.proofs.Sending.{IsNotice, IsUnopened, none_up}
+use Rattle.bgp_way_ends.proofs.Sending.{IsUnopened, none_up}
 use Rattle.bgp_way_ends.proofs.WayEnds.{Chain, Fine, fine_in, fsm_told, heard_way, idle_state, octets_of, to_chain}
 
 -- ---- the first record

@@ -3,3 +3,5 @@ pub mod OneState
 pub mod WayEnds
 pub mod Connections
 pub mod MadeUnfinished
+pub mod Starts
+pub mod Patience

@@ -1,5 +1,5 @@
 -- All whole ways of an exchange end alike, in one state.
-use Rattle.std.specs.Prelude.{◌≡◌, ◌↔◌, ℕ, List, Some}
+use Rattle.std.specs.Prelude.{◌≡◌, ◌↔◌, ℕ, Some}
 use Rattle.std.specs.List.{AllByRecursion}
 use Rattle.bgp_wire.specs.Header.{header_of, type_of}
 use Rattle.bgp_wire.specs.declared.header.MessageType.TheVariants.{Notification}

@@ -4,6 +4,10 @@ ghost use Rattle.bgp_way_ends.specs.Connections.{MadeOrderListsAllEnds, WayLists
 ghost use Rattle.bgp_way_ends.specs.EveryEnd.{MadeYesListsEveryEnd, WayYesListsEveryEnd};
 ghost use Rattle.bgp_way_ends.specs.MadeUnfinished.{MadeUnfinishedIsNoNo};
 ghost use Rattle.bgp_way_ends.specs.OneState.{EachWholeWayTellsAllEnds, WholeWaysEndInOneState};
+ghost use Rattle.bgp_way_ends.specs.Patience.{MorePatienceKeepsNodes, MorePatienceReaches};
+ghost use Rattle.bgp_way_ends.specs.Patience.{MorePatienceStaysTooLong};
+ghost use Rattle.bgp_way_ends.specs.Starts.{TwoStartsDecide, TwoStartsEndAll};
+ghost use Rattle.bgp_way_ends.specs.Starts.{TwoStartsExplainAll};
 ghost use Rattle.bgp_way_ends.specs.WayEnds.{EntriesTellAllEnds, OneWayForEachState};
 ghost use Rattle.bgp_way_ends.specs.WayEnds.{OneWayTellsAllEnds, WholeWaysEndAlike};
 
@@ -80,4 +84,25 @@ pub fn a_yes_lists_all_ends()
 /// doesn't rest on which order is made.
 pub fn a_made_unfinished_is_no_no()
     ensures { MadeUnfinishedIsNoNo }
+{}
+
+/// States that the two starts of a way are enough. The standard has four: Connect or Active before
+/// the own OPEN (RFC 4271, 8.2.2), and the own OPEN delayed or not (DelayOpen). Of what packets
+/// tell of a connection, so many messages are explained from one of the four exactly where some way
+/// explains them, the session can have ended so from one of them exactly where some way is whole
+/// and ends so, and the verdict over all ways is that from the four.
+pub fn two_starts_are_enough()
+    ensures explained { TwoStartsExplainAll }
+    ensures ends { TwoStartsEndAll }
+    ensures verdict { TwoStartsDecide }
+{
+    a_member_is_reached();
+}
+
+/// States that more patience reaches no fewer nodes. So if the search is too long it needn't be made
+/// again with more: more nodes than it looks at are reached then, too.
+pub fn more_patience_reaches_no_fewer_nodes()
+    ensures reached { MorePatienceReaches }
+    ensures nodes { MorePatienceKeepsNodes }
+    ensures too_long { MorePatienceStaysTooLong }
 {}

@@ -10,9 +10,9 @@ use Rattle.bgp_update.specs.Allowed.{Allows, changes_value}
 use Rattle.bgp_update.specs.Changes.{RouteChanges}
 use Rattle.bgp_update.specs.Disabled.{IsDisabled}
 use Rattle.bgp_update.specs.Outcome.{Outcome, Applied, IsOutcome}
-use Rattle.bgp_parts.specs.declared.update.UpdatePart.{UpdatePart}
-use Rattle.bgp_parts.specs.UpdateParts.{shown_part}
-use Rattle.bgp_parts.specs.Withdrawal.{IsWithdrawal}
+use Rattle.bgp_why_parts.specs.UpdatePart.{UpdatePart}
+use Rattle.bgp_why_parts.specs.UpdateParts.{shown_part}
+use Rattle.bgp_why_parts.specs.Withdrawal.{IsWithdrawal}
 use Rattle.bgp_update.specs.declared.subcodes.Subcodes.{Subcodes}
 use Rattle.bgp_why_parts.specs.Parts.{shown_update}
 use Rattle.bgp_why.specs.declared.applying.Applying.{Applying}

@@ -13,9 +13,9 @@ use Rattle.bgp_update.specs.declared.subcodes.Subcodes.{Subcodes}
 use Rattle.bgp_update.specs.Subcodes.{HasSubcode, marks_of}
 use Rattle.bgp_machine.specs.Lists.{Has}
 use Rattle.bgp_machine.specs.Want.{Tells, limit_on}
-use Rattle.bgp_reason.specs.declared.kinds.FsmErrors.{FsmErrors}
-use Rattle.bgp_reason.specs.declared.kinds.Possible.{Possible}
-use Rattle.bgp_reason.specs.Possible.{HasFsmError, IsAmong, IsNotified}
+use Rattle.bgp_why_parts.specs.FsmErrors.{FsmErrors}
+use Rattle.bgp_why_parts.specs.DeclaredPossible.{Possible}
+use Rattle.bgp_why_parts.specs.Possible.{HasFsmError, IsAmong, IsNotified}
 use Rattle.bgp_why.specs.Items.{all_items}
 use Rattle.bgp_why.specs.Lines.{IsOfItem, OthersTellTheRest, items_told}
 use Rattle.bgp_why.specs.OtherOrders.{beside, besides, count_beside, expiry_beside, fsm_errors_beside, header_errors_beside, open_errors_beside, update_errors_beside}

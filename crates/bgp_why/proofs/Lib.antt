@@ -8,3 +8,4 @@ mod Applied
 mod Named
 pub mod ToldLines
 mod Besides
+pub use Rattle.bgp_why_parts.proofs.Fronts

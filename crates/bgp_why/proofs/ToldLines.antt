@@ -25,12 +25,12 @@ use Rattle.bgp_machine.specs.declared.fsm.Fsm.TheVariants as fsms
 use Rattle.bgp_machine.specs.Lists.{Each, Has}
 use Rattle.bgp_machine.specs.State.{number_of}
 use Rattle.bgp_machine.specs.Want.{Tells, limit_on}
-use Rattle.bgp_reason.specs.declared.kinds.FsmErrors.{FsmErrors}
-use Rattle.bgp_reason.specs.declared.kinds.Possible.{Possible}
-use Rattle.bgp_reason.specs.Asked.{AreAsked}
-use Rattle.bgp_reason.specs.Possible.{ArePossible, HasFsmError, HasState, IsAmong, IsCapturable, IsCleanOn, IsNotified}
-use Rattle.bgp_reason.specs.Sending.{sending_link}
-use Rattle.bgp_reason.proofs.OneForAll.{alive_frame, alive_heard, alive_is_message, one_message}
+use Rattle.bgp_why_parts.specs.FsmErrors.{FsmErrors}
+use Rattle.bgp_why_parts.specs.DeclaredPossible.{Possible}
+use Rattle.bgp_why_parts.specs.Asked.{AreAsked}
+use Rattle.bgp_why_parts.specs.Possible.{ArePossible, HasFsmError, HasState, IsAmong, IsCapturable, IsCleanOn, IsNotified}
+use Rattle.bgp_why_parts.specs.Sending.{sending_link}
+use Rattle.bgp_why_parts.proofs.OneForAll.{alive_frame, alive_heard, alive_is_message, one_message}
 use Rattle.bgp_why.specs.declared.items.Item.{Item}
 use Rattle.bgp_why.specs.declared.items.Item.TheVariants as items
 use Rattle.bgp_why.specs.Items.{all_items, expiry_item, has_fsm_error, has_header_error, has_open_error, has_update_error, those_possible}

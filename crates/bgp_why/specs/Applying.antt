@@ -10,9 +10,9 @@ use Rattle.bgp_update.specs.Changes.{RouteChanges}
 use Rattle.bgp_update.specs.Disabled.{IsDisabled}
 use Rattle.bgp_update.specs.Outcome.{Applied, IsOutcome, Reset}
 use Rattle.bgp_update.specs.Subcodes.{HasSubcode}
-use Rattle.bgp_parts.specs.UpdateParts.{AreUpdateParts, Part, shown_part}
-use Rattle.bgp_parts.specs.Withdrawal.{IsWithdrawal}
-use Rattle.bgp_names.specs.Families.{families_name}
+use Rattle.bgp_why_parts.specs.UpdateParts.{AreUpdateParts, Part, shown_part}
+use Rattle.bgp_why_parts.specs.Withdrawal.{IsWithdrawal}
+use Rattle.bgp_why_parts.specs.Families.{families_name}
 use Rattle.bgp_why_parts.specs.Parts.{shown_update}
 use Rattle.bgp_why_parts.specs.Pieces.{separated}
 use Rattle.bgp_why.specs.declared.applying.Applying.{Applying}

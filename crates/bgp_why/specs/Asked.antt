@@ -12,8 +12,8 @@ use Rattle.bgp_machine.specs.declared.fsm.Fsm.TheVariants as states
 use Rattle.bgp_machine.specs.declared.hearing.Heard.TheVariants as heard
 use Rattle.bgp_machine.specs.Heard.{Hears}
 use Rattle.bgp_machine.specs.State.{number_of}
-use Rattle.bgp_names.specs.Families.{families_name}
-use Rattle.bgp_names.specs.States.{state_name}
+use Rattle.bgp_why_parts.specs.Families.{families_name}
+use Rattle.bgp_why_parts.specs.NamesStates.{state_name}
 use Rattle.bgp_why.specs.declared.asked.Received.{Received}
 use Rattle.bgp_why.specs.declared.asked.Received.TheVariants.{FaultyHeader, ValidOpen}
 use Rattle.bgp_why.specs.declared.asked.Received.TheVariants.{InvalidOpen, Update}

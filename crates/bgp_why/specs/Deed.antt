@@ -9,8 +9,8 @@ use Rattle.bgp_wire.specs.Header.{limit_with}
 use Rattle.bgp_open.specs.declared.link.Link.{Link}
 use Rattle.bgp_open.specs.declared.route_form.RouteForm.{RouteForm}
 use Rattle.bgp_open.specs.RouteForm.{plain_form}
-use Rattle.bgp_names.specs.States.{state_name}
-use Rattle.bgp_reason.specs.declared.kinds.Possible.{Possible}
+use Rattle.bgp_why_parts.specs.NamesStates.{state_name}
+use Rattle.bgp_why_parts.specs.DeclaredPossible.{Possible}
 use Rattle.bgp_why_parts.specs.declared.own_faults.OwnFaults.{OwnFaults}
 use Rattle.bgp_why.specs.declared.endpoint.Endpoint.{Endpoint}
 use Rattle.bgp_why.specs.declared.items.Item.{Item}

@@ -8,7 +8,7 @@ use Rattle.hex.specs.Hex.{encode_lower}
 use Rattle.bgp_wire.specs.declared.header.HeaderFaults.{HeaderFaults}
 use Rattle.bgp_open.specs.declared.subcodes.OpenSubcodes.{OpenSubcodes}
 use Rattle.bgp_update.specs.declared.subcodes.Subcodes.{Subcodes}
-use Rattle.bgp_reason.specs.declared.kinds.FsmErrors.{FsmErrors}
+use Rattle.bgp_why_parts.specs.FsmErrors.{FsmErrors}
 use Rattle.bgp_why_parts.specs.Codes.{code_text}
 use Rattle.bgp_why.specs.declared.errors.FixedData.{FixedData}
 use Rattle.bgp_why.specs.declared.errors.FixedData.TheVariants as variants

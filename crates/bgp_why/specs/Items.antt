@@ -7,8 +7,8 @@ use Rattle.bgp_open.specs.declared.subcodes.OpenSubcodes.{OpenSubcodes}
 use Rattle.bgp_update.specs.declared.subcodes.Subcodes.{Subcodes}
 use Rattle.bgp_machine.specs.declared.fsm.Fsm.TheVariants as states
 use Rattle.bgp_machine.specs.State.{number_of}
-use Rattle.bgp_reason.specs.declared.kinds.FsmErrors.{FsmErrors}
-use Rattle.bgp_reason.specs.declared.kinds.Possible.{Possible}
+use Rattle.bgp_why_parts.specs.FsmErrors.{FsmErrors}
+use Rattle.bgp_why_parts.specs.DeclaredPossible.{Possible}
 use Rattle.bgp_why.specs.declared.items.Item.{Item}
 use Rattle.bgp_why.specs.declared.items.Item.TheVariants.{ReceivedMessage, SentOpen}
 use Rattle.bgp_why.specs.declared.items.Item.TheVariants.{SentKeepalive, SentUpdate}
@@ -17,7 +17,7 @@ use Rattle.bgp_why.specs.declared.items.Item.TheVariants.{UpdateErrors, HoldTime
 use Rattle.bgp_why.specs.declared.items.Item.TheVariants.{SendHoldTimerExpired}
 use Rattle.bgp_why.specs.declared.items.Item.TheVariants.{StateErrors, Cease, Change}
 use Rattle.bgp_clock.specs.When.{short_text}
-use Rattle.bgp_names.specs.States.{state_name}
+use Rattle.bgp_why_parts.specs.NamesStates.{state_name}
 use Rattle.bgp_why_parts.specs.Codes.{code_text}
 use Rattle.bgp_why.specs.Errors.{any_of, header_errors, open_errors, update_errors_text}
 use Rattle.bgp_why.specs.Errors.{fsm_errors}

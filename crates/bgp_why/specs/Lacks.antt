@@ -8,11 +8,11 @@ use Rattle.bgp_wire.specs.Header.{header_of, type_of}
 use Rattle.bgp_open.specs.declared.config.Config.{Config}
 use Rattle.bgp_open.specs.declared.link.Link.{Link}
 use Rattle.bgp_machine.specs.Want.{limit_on}
-use Rattle.bgp_reason.specs.declared.kinds.Possible.{Possible}
-use Rattle.bgp_parts.specs.declared.own_open.OwnOpenParts.{OwnOpenParts}
-use Rattle.bgp_parts.specs.NotificationParts.{AreNotificationParts, ResembleNone}
-use Rattle.bgp_parts.specs.OwnOpenParts.{AreOwnOpenParts}
-use Rattle.bgp_parts.specs.UpdateParts.{AreUpdateParts, shown_part}
+use Rattle.bgp_why_parts.specs.DeclaredPossible.{Possible}
+use Rattle.bgp_why_parts.specs.DeclaredOwnOpenParts.{OwnOpenParts}
+use Rattle.bgp_why_parts.specs.NotificationParts.{AreNotificationParts, ResembleNone}
+use Rattle.bgp_why_parts.specs.OwnOpenParts.{AreOwnOpenParts}
+use Rattle.bgp_why_parts.specs.UpdateParts.{AreUpdateParts, shown_part}
 use Rattle.bgp_why_parts.specs.declared.own_faults.OwnFaults.{OwnFaults}
 use Rattle.bgp_why_parts.specs.OwnFaults.{own_faults_text}
 use Rattle.bgp_why_parts.specs.Parts.{shown_notification, shown_open, shown_update}

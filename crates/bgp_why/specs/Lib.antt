@@ -21,3 +21,8 @@ pub mod NotWhole
 pub mod State
 pub mod Lines
 pub mod Codes
+pub use Rattle.bgp_why_parts.specs.Codes as WhyPartsCodes
+pub use Rattle.bgp_why_parts.specs.Cut
+pub use Rattle.bgp_why_parts.specs.declared.room.Room
+pub use Rattle.bgp_why_parts.specs.DeclaredPossible
+pub use Rattle.bgp_why_parts.specs.UpdateParts

@@ -13,12 +13,12 @@ use Rattle.bgp_update.specs.Subcodes.{HasSubcode}
 use Rattle.bgp_machine.specs.Lists.{Each, Has}
 use Rattle.bgp_machine.specs.State.{number_of}
 use Rattle.bgp_machine.specs.Want.{Tells, limit_on}
-use Rattle.bgp_reason.specs.declared.kinds.Possible.{Possible}
-use Rattle.bgp_reason.specs.Asked.{AreAsked}
-use Rattle.bgp_reason.specs.Following.{MayFollow}
-use Rattle.bgp_reason.specs.Possible.{ArePossible, HasFsmError, IsAmong, IsCapturable}
-use Rattle.bgp_reason.specs.Possible.{IsCleanOn}
-use Rattle.bgp_reason.specs.Sending.{sending_link}
+use Rattle.bgp_why_parts.specs.DeclaredPossible.{Possible}
+use Rattle.bgp_why_parts.specs.Asked.{AreAsked}
+use Rattle.bgp_why_parts.specs.Following.{MayFollow}
+use Rattle.bgp_why_parts.specs.Possible.{ArePossible, HasFsmError, IsAmong, IsCapturable}
+use Rattle.bgp_why_parts.specs.Possible.{IsCleanOn}
+use Rattle.bgp_why_parts.specs.Sending.{sending_link}
 use Rattle.bgp_why.specs.declared.items.Item.{Item}
 use Rattle.bgp_why.specs.declared.items.Item.TheVariants as items
 use Rattle.bgp_why.specs.Items.{all_items, those_possible}
@@ -82,9 +82,9 @@ LinesTellAll =
 
 -- ---- other orders
 
--- Of the messages that the others say could be sent, at a second from which Hold Timer Expired is so
--- if they have it: each is of an item that is told already, or of one of a line of other orders; and
--- each of such a line is one of them.
+-- Each message that the others say could be sent, at a second from which Hold Timer Expired is so if
+-- they have it, is of an item that is printed already, or of one of a line of other orders; and each
+-- of such a line is one of these messages.
 pub record TellTheRest (config : Config) (link : Option Link) (told others : Possible) : Type 0
   where
     pub all : (second : ℕ) (octets : List ℕ) → IsAmong config link others (Sent second octets)

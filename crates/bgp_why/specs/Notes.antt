@@ -12,8 +12,8 @@ use Rattle.bgp_open.specs.Notification.{IsNotification}
 use Rattle.bgp_machine.specs.declared.fsm.Fsm.{Fsm}
 use Rattle.bgp_machine.specs.declared.fsm.Fsm.TheVariants as states
 use Rattle.bgp_machine.specs.Heard.{Announces}
-use Rattle.bgp_reason.specs.declared.kinds.Possible.{Possible}
-use Rattle.bgp_reason.specs.declared.told.Told.{Told}
+use Rattle.bgp_why_parts.specs.DeclaredPossible.{Possible}
+use Rattle.bgp_why_parts.specs.Told.{Told}
 use Rattle.bgp_why.specs.declared.notes.Notes.{Notes}
 use Rattle.bgp_why.specs.Items.{has_sent}
 

@@ -2,8 +2,8 @@
 use Rattle.std.specs.Prelude.{◌++◌, ℕ, Bool, true, false, List, [], ◌∷◌, if◌then◌else◌, codes}
 use Rattle.bgp_machine.specs.declared.fsm.Fsm.{Fsm}
 use Rattle.bgp_machine.specs.declared.fsm.Fsm.TheVariants as states
-use Rattle.bgp_reason.specs.declared.kinds.Possible.{Possible}
-use Rattle.bgp_reason.specs.declared.kinds.States.{States}
+use Rattle.bgp_why_parts.specs.DeclaredPossible.{Possible}
+use Rattle.bgp_why_parts.specs.States.{States}
 use Rattle.bgp_why.specs.declared.items.Item.{Item}
 use Rattle.bgp_why.specs.declared.lacks.Lacks.{Lacks}
 use Rattle.bgp_why.specs.declared.other_orders.OtherOrders.{OtherOrders}

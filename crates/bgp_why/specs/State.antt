@@ -2,7 +2,7 @@
 use Rattle.std.specs.Prelude.{◌++◌, ◌==◌, ℕ, List, [], Option, None, Some, codes, if◌then◌else◌}
 use Rattle.bgp_machine.specs.declared.fsm.Fsm.{Fsm}
 use Rattle.bgp_machine.specs.State.{number_of}
-use Rattle.bgp_names.specs.States.{state_name}
+use Rattle.bgp_why_parts.specs.NamesStates.{state_name}
 use Rattle.std.specs.Fmt.{decimal}
 use Rattle.bgp_why_parts.specs.Codes.{full_code_text}
 use Rattle.bgp_why.specs.declared.place.Place.{Place}

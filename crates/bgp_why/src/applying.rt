@@ -1,7 +1,7 @@
 //! What an UPDATE that was received in Established asks for (RFC 4271, 6.3; RFC 7606).
 
 ghost use Rattle.std.specs.Prelude.{◌≡◌, ◌∷◌, [], IfOk, map};
-ghost use Rattle.bgp_parts.specs.UpdateParts.{shown_part};
+ghost use Rattle.bgp_why_parts.specs.UpdateParts.{shown_part};
 ghost use Rattle.bgp_text.specs.Lines.{Writes};
 ghost use Rattle.bgp_why_parts.specs.Pieces.{separated, next_separator};
 ghost use Rattle.bgp_why.specs.Applying.{AsksUpdate, applied_piece, applied_text};
@@ -15,12 +15,10 @@ use crate::items::has_update_error;
 use crate::message::MessageName;
 use crate::place::Place;
 use crate::style::Style;
-use bgp_names::families_name;
 use bgp_open::{Families, Link};
-use bgp_parts::{UpdatePart, is_withdrawal, update_parts};
 use bgp_text::Lines;
 use bgp_update::{Subcodes, read_update};
-use bgp_why_parts::{Parts, put_parts};
+use bgp_why_parts::{Parts, UpdatePart, families_name, is_withdrawal, put_parts, update_parts};
 use mrt::Sink;
 use std::alloc::{AllocError, Allocator, Global};
 

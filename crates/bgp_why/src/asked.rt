@@ -15,10 +15,10 @@ use crate::reasons::put_reasons;
 use crate::refusal::{OpenReasons, open_reasons};
 use crate::style::Style;
 use bgp_machine::{Fsm, Heard, hear, received_limit};
-use bgp_names::put_state_name;
 use bgp_open::{Config, Families, Link, RouteForm};
 use bgp_prefix::Seconds;
 use bgp_text::Lines;
+use bgp_why_parts::put_state_name;
 use mrt::Sink;
 
 /// A message that was received, as far as it decides what it asks for.

@@ -9,9 +9,8 @@ ghost use Rattle.bgp_why.specs.Found.{found_with, the_one, with_message};
 use crate::items::{Item, items_of, put_due};
 use crate::lacks::{Lacks, is_resembled, put_lacks};
 use crate::style::Style;
-use bgp_reason::Possible;
 use bgp_text::Lines;
-use bgp_why_parts::OwnFaults;
+use bgp_why_parts::{OwnFaults, Possible};
 use mrt::Sink;
 use std::alloc::Allocator;
 

@@ -11,10 +11,9 @@ ghost use Rattle.bgp_why.specs.declared.errors.FixedData.TheVariants as variants
 ghost use Rattle.bgp_why.specs.Waiting.{last_text, passed, with};
 
 use bgp_open::OpenSubcodes;
-use bgp_reason::FsmErrors;
 use bgp_text::Lines;
 use bgp_update::Subcodes;
-use bgp_why_parts::put_code;
+use bgp_why_parts::{FsmErrors, put_code};
 use bgp_wire::HeaderFaults;
 use byteorder::{BigEndian, ByteOrder};
 use mrt::Sink;

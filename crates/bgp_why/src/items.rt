@@ -13,13 +13,11 @@ ghost use Rattle.bgp_why.specs.declared.items.Item.TheVariants.{HoldTimerExpired
 use crate::errors::{put_fsm_errors, put_header_errors, put_open_errors, put_update_errors};
 use bgp_clock::put_short;
 use bgp_machine::Fsm;
-use bgp_names::put_state_name;
 use bgp_open::OpenSubcodes;
 use bgp_prefix::Seconds;
-use bgp_reason::{FsmErrors, Possible};
 use bgp_text::Lines;
 use bgp_update::Subcodes;
-use bgp_why_parts::put_code;
+use bgp_why_parts::{FsmErrors, Possible, put_code, put_state_name};
 use bgp_wire::HeaderFaults;
 use mrt::Sink;
 

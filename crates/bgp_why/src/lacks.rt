@@ -13,13 +13,12 @@ ghost use Rattle.bgp_why.specs.Lacks.{is_code_possible, is_resembled};
 use crate::items::{Item, has_fsm_error, has_header_error, has_open_error, has_update_error};
 use crate::whole::sent_limit;
 use bgp_open::{Config, Link, read_notification};
-use bgp_parts::{
-    NotificationParts, OwnOpenParts, UpdatePart, notification_parts, own_open_parts, update_parts,
-};
 use bgp_prefix::Seconds;
-use bgp_reason::Possible;
 use bgp_text::Lines;
-use bgp_why_parts::{OwnFaults, Parts, put_own_faults, put_parts};
+use bgp_why_parts::{
+    NotificationParts, OwnFaults, OwnOpenParts, Parts, Possible, UpdatePart, notification_parts,
+    own_open_parts, put_own_faults, put_parts, update_parts,
+};
 use bgp_wire::{HeaderVerdict, MessageType, check_header, header_at};
 use mrt::{Record, Sink};
 use std::alloc::{AllocError, Allocator, Global};

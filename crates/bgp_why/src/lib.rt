@@ -40,7 +40,7 @@ mod whole;
 
 pub use applying::{Applying, AskedUpdate, put_last_update, put_update_asks};
 pub use asked::{Asked, Received, put_asked, put_last_received};
-pub use bgp_why_parts::OwnFaults;
+pub use bgp_why_parts::{OwnFaults, Room, put_cut, put_full_code};
 pub use cause::put_cause;
 pub use deed::{put_deed, put_record_line};
 pub use endpoint::{Endpoint, put_endpoint};

@@ -14,7 +14,7 @@ ghost use Rattle.bgp_why.specs.Notes.{AreNotes, AreEndNotes, judged_without};
 use crate::items::has_sent;
 use bgp_machine::{Fsm, received_limit};
 use bgp_open::{Config, Link, RouteOffer};
-use bgp_reason::{Possible, Told};
+use bgp_why_parts::{Possible, Told};
 use bgp_wire::{HeaderVerdict, MessageType, check_header, header_at, message_body};
 use mrt::Record;
 

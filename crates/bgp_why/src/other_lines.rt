@@ -11,8 +11,8 @@ use crate::lacks::Lacks;
 use crate::other_orders::{OtherOrders, besides};
 use crate::possible::put_item_line;
 use crate::style::Style;
-use bgp_reason::Possible;
 use bgp_text::Lines;
+use bgp_why_parts::Possible;
 use mrt::Sink;
 use std::alloc::Global;
 

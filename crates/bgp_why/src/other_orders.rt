@@ -8,8 +8,8 @@ ghost use Rattle.bgp_why.specs.OtherOrders.{open_errors_beside, update_errors_be
 
 use bgp_open::OpenSubcodes;
 use bgp_prefix::Seconds;
-use bgp_reason::{FsmErrors, Possible, States};
 use bgp_update::Subcodes;
+use bgp_why_parts::{FsmErrors, Possible, States};
 use bgp_wire::HeaderFaults;
 
 /// What is said of other orders of a recording's messages than that of its records.

@@ -13,8 +13,8 @@ use crate::lacks::{Lacks, put_but};
 use crate::other_lines::put_other_orders;
 use crate::style::Style;
 use bgp_machine::Fsm;
-use bgp_reason::{Possible, States};
 use bgp_text::Lines;
+use bgp_why_parts::{Possible, States};
 use mrt::Sink;
 use std::alloc::{Allocator, Global};
 

@@ -8,7 +8,7 @@ ghost use Rattle.bgp_open.specs.declared.config.Config.{Config as TheConfig};
 ghost use Rattle.bgp_why.specs.Refusal.{AreFieldReasons, AreReasons, IsRefusedBy};
 
 use bgp_open::{Config, Open, OpenFault, open_faults, read_fields, read_open};
-use bgp_parts::offered_as_number;
+use bgp_why_parts::offered_as_number;
 use bgp_wire::{MessageType, message_body};
 
 /// How many octets the fields have that are in every OPEN.

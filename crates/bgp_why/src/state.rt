@@ -7,10 +7,9 @@ ghost use Rattle.bgp_why.specs.State.{sent_line, state_line};
 use crate::place::{Place, put_place_at};
 use crate::style::Style;
 use bgp_machine::Fsm;
-use bgp_names::put_state_name;
 use bgp_prefix::Seconds;
 use bgp_text::Lines;
-use bgp_why_parts::put_full_code;
+use bgp_why_parts::{put_full_code, put_state_name};
 use mrt::Sink;
 
 /// AS_TRANS, which stands for an AS number of four octets (RFC 6793, 9).

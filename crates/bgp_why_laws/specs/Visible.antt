@@ -13,7 +13,7 @@ use Rattle.bgp_json_verdicts.specs.Objects.{line_json, objects_of}
 use Rattle.bgp_json_verdicts.specs.Telling.{lines_of}
 use Rattle.bgp_json_verdicts.specs.declared.telling.Counts.{Counts}
 use Rattle.bgp_verdict_laws.specs.Laws.{IsLine}
-use Rattle.bgp_verdict_lines.specs.Printed.{IsToldInJson}
+use Rattle.bgp_verdict_laws.specs.Printed.{IsToldInJson}
 use Rattle.bgp_visible_laws.specs.Visible.{AreVisibleLines, IsVisible, IsVisibleLine}
 
 -- ---- lines as they are printed

@@ -5,9 +5,9 @@ use Rattle.std.proofs.Math.Nat.{min_comm}
 use Rattle.std.proofs.Math.Seq.{take-append-add, take-length}
 use Rattle.std.proofs.lemmas.List.{length-take-le, get_or-take, take-append-drop, take-append-le, take_all, take_min}
 use Rattle.mrt.specs.declared.sink.Sink as sinks
-use Rattle.bgp_text.specs.Lines.{Writes}
-use Rattle.bgp_text.specs.declared.lines.Lines.{Lines}
-use Rattle.bgp_text.proofs.Fresh.{IsFresh, all_taken, one_counted}
+use Rattle.bgp_names.specs.Lines.{Writes}
+use Rattle.bgp_names.specs.DeclaredLines.{Lines}
+use Rattle.bgp_names.proofs.Fresh.{IsFresh, all_taken, one_counted}
 use Rattle.bgp_why_parts.specs.Cut.{cut, shown_count, Keeps}
 
 module _ (text : List ℕ) where

@@ -4,3 +4,5 @@ mod FaultTexts
 mod OneText
 mod PartByPart
 pub mod Separated
+pub use Rattle.bgp_parts.proofs.ReadableOpen
+pub use Rattle.bgp_parts.proofs.OneForAll

@@ -13,7 +13,7 @@ use Rattle.bgp_names.specs.Naming.{NamesOfTwoDiffer}
 use Rattle.bgp_names.proofs.Distinct.{decimal_lacks, one_front}
 use Rattle.bgp_parts.specs.declared.attribute.AttributeFault.{AttributeFault}
 use Rattle.bgp_parts.specs.declared.attribute.AttributeFault.TheVariants as faults
-use Rattle.bgp_text.specs.Text.{hex_text}
+use Rattle.bgp_names.specs.Text.{hex_text}
 use Rattle.bgp_why_parts.specs.Codes.{code_text, full_code_text}
 use Rattle.bgp_why_parts.specs.Updates.{fault_text, value_text}
 

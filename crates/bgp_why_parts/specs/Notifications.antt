@@ -3,7 +3,7 @@ use Rattle.std.specs.Prelude.{◌++◌, ℕ, List, [], ◌∷◌, Option, None, 
 use Rattle.bgp_parts.specs.declared.notification.NotificationPart.{NotificationPart}
 use Rattle.bgp_parts.specs.declared.notification.NotificationPart.TheVariants.{Subcode, Data}
 use Rattle.bgp_parts.specs.declared.notification.NotificationParts.{NotificationParts}
-use Rattle.bgp_text.specs.Text.{hex_text}
+use Rattle.bgp_names.specs.Text.{hex_text}
 use Rattle.bgp_why_parts.specs.Codes.{code_text}
 use Rattle.bgp_why_parts.specs.Pieces.{listed}
 

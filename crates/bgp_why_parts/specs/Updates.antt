@@ -10,7 +10,7 @@ use Rattle.bgp_names.specs.Attributes.{attribute_name}
 use Rattle.bgp_parts.specs.declared.attribute.AttributeFault.{AttributeFault}
 use Rattle.bgp_parts.specs.declared.attribute.AttributeFault.TheVariants as faults
 use Rattle.bgp_parts.specs.UpdateParts as told
-use Rattle.bgp_text.specs.Text.{hex_text}
+use Rattle.bgp_names.specs.Text.{hex_text}
 
 -- the flags octet
 abbrev pub flags_text : ℕ → List ℕ

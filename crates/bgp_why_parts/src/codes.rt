@@ -1,10 +1,9 @@
 //! An error code and a subcode, with their names.
 
-ghost use Rattle.bgp_text.specs.Lines.{Writes};
+ghost use Rattle.bgp_names.specs.Lines.{Writes};
 ghost use Rattle.bgp_why_parts.specs.Codes.{code_text, full_code_text};
 
-use bgp_names::{put_error_name, put_short_error_name};
-use bgp_text::Lines;
+use bgp_names::{Lines, put_error_name, put_short_error_name};
 use mrt::Sink;
 
 /// Puts an error code and a subcode with the subcode's name: `6/4 (Administrative Reset)`.

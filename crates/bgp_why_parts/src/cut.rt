@@ -1,10 +1,10 @@
 //! How much is shown of a text from the wire.
 
 ghost use Rattle.std.specs.Prelude.{◌≡◌, ◌<◌, ◌≤◌, ℕ, List, length, take};
-ghost use Rattle.bgp_text.specs.Lines.{Writes};
+ghost use Rattle.bgp_names.specs.Lines.{Writes};
 ghost use Rattle.bgp_why_parts.specs.Cut.{cut, goes_on, shown_count};
 
-use bgp_text::Lines;
+use bgp_names::Lines;
 use mrt::Sink;
 
 /// How many octets of a text are shown at the most.

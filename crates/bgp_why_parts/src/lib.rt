@@ -1,7 +1,7 @@
 //! The words for what a message lacks, part by part, as `bgp check` and `bgp judge --explain` print
 //! them, and how much of a text from the wire is shown.
 //!
-//! What each text is, is stated in `specs/`. A text is put into [`Lines`](bgp_text::Lines):
+//! What each text is, is stated in `specs/`. A text is put into [`Lines`](bgp_names::Lines):
 //!
 //! ```text
 //! let parts = Parts::Update(true, &parts);
@@ -20,6 +20,11 @@ mod parts;
 mod room;
 mod updates;
 
+pub use bgp_names::{families_name, put_state_name};
+pub use bgp_parts::{
+    FsmErrors, NotificationParts, OwnOpenParts, Possible, States, Told, UpdatePart, is_withdrawal,
+    notification_parts, offered_as_number, own_open_parts, update_parts,
+};
 pub use codes::{put_code, put_full_code};
 pub use cut::put_cut;
 pub use laws::{

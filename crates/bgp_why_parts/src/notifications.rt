@@ -1,15 +1,15 @@
 //! What a NOTIFICATION lacks of those that are possible (RFC 4271, 4.5).
 
 ghost use Rattle.std.specs.Prelude.{◌≡◌, ◌∷◌, [], codes};
-ghost use Rattle.bgp_text.specs.Lines.{Writes};
+ghost use Rattle.bgp_names.specs.Lines.{Writes};
 ghost use Rattle.bgp_why_parts.specs.Pieces.{separated, next_separator};
 ghost use Rattle.bgp_why_parts.specs.Notifications.{word_text, word_piece, early_piece};
 ghost use Rattle.bgp_why_parts.specs.Notifications.{notification_parts_text};
 
 use crate::codes::put_code;
+use bgp_names::Lines;
 use bgp_parts::{NotificationPart, NotificationParts};
 use bgp_prefix::Seconds;
-use bgp_text::Lines;
 use mrt::Sink;
 
 /// Its code with its subcode, or its data.

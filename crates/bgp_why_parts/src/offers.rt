@@ -2,12 +2,12 @@
 
 ghost use Rattle.std.specs.Prelude.{◌≡◌, ◌||◌, ◌∷◌, [], codes};
 ghost use Rattle.std.specs.Bool.{then_some};
-ghost use Rattle.bgp_text.specs.Lines.{Writes};
+ghost use Rattle.bgp_names.specs.Lines.{Writes};
 ghost use Rattle.bgp_why_parts.specs.Pieces.{separated, next_separator};
 ghost use Rattle.bgp_why_parts.specs.Offers.{offer_text, offers_something, words_text};
 
+use bgp_names::Lines;
 use bgp_open::RouteOffer;
-use bgp_text::Lines;
 use mrt::Sink;
 
 /// Whether anything is offered.

@@ -1,7 +1,7 @@
 //! What an OPEN lacks of the local system's own (RFC 4271, 4.2).
 
 ghost use Rattle.std.specs.Prelude.{◌≡◌, ◌∷◌, [], codes};
-ghost use Rattle.bgp_text.specs.Lines.{Writes};
+ghost use Rattle.bgp_names.specs.Lines.{Writes};
 ghost use Rattle.bgp_why_parts.specs.Pieces.{separated, next_separator};
 ghost use Rattle.bgp_why_parts.specs.Opens.{number_piece, id_piece, families_piece};
 ghost use Rattle.bgp_why_parts.specs.Opens.{as_number_text, as_number_piece, extended_piece};
@@ -10,10 +10,9 @@ ghost use Rattle.bgp_why_parts.specs.Opens.{open_fault_text, open_parts_text};
 
 use crate::codes::put_code;
 use crate::offers::put_offer;
-use bgp_names::families_name;
+use bgp_names::{Lines, families_name};
 use bgp_open::{Families, OpenFault, RouteOffer};
 use bgp_parts::{Differing, OpenDifferences, OwnOpenParts};
-use bgp_text::Lines;
 use mrt::Sink;
 
 /// A number that differs, after a separator and a word. Answers the next separator, as those below.

@@ -2,11 +2,11 @@
 
 ghost use Rattle.std.specs.Prelude.{◌≡◌, ◌∷◌, [], codes};
 ghost use Rattle.bgp_why_parts.specs.Pieces.{next_separator, separated};
-ghost use Rattle.bgp_text.specs.Lines.{Writes};
+ghost use Rattle.bgp_names.specs.Lines.{Writes};
 ghost use Rattle.bgp_why_parts.specs.OwnFaults.{as_piece, as_text, hold_piece, id_piece};
 ghost use Rattle.bgp_why_parts.specs.OwnFaults.{own_faults_text};
 
-use bgp_text::Lines;
+use bgp_names::Lines;
 use bgp_wire::two_octet_as;
 use mrt::Sink;
 

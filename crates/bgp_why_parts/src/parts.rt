@@ -1,7 +1,7 @@
 //! The parts of a message, of whichever type, in one line.
 
 ghost use Rattle.std.specs.Prelude.{◌≡◌, ℕ, List, take};
-ghost use Rattle.bgp_text.specs.Lines.{Writes};
+ghost use Rattle.bgp_names.specs.Lines.{Writes};
 ghost use Rattle.bgp_why_parts.specs.Cut.{cut};
 ghost use Rattle.bgp_why_parts.specs.Parts.{behind, parts_text, shown};
 
@@ -10,8 +10,8 @@ use crate::notifications::put_notification_parts;
 use crate::opens::put_open_parts;
 use crate::room::Room;
 use crate::updates::put_update_parts;
+use bgp_names::Lines;
 use bgp_parts::{NotificationParts, OwnOpenParts, UpdatePart};
-use bgp_text::Lines;
 use mrt::Sink;
 
 /// The parts of a message: what it lacks.

@@ -4,16 +4,15 @@ ghost use Rattle.std.specs.Prelude.{◌≡◌, ◌++◌, map};
 ghost use Rattle.bgp_names.specs.Attributes.{attribute_name};
 ghost use Rattle.bgp_attr.specs.Field.{attribute_of};
 ghost use Rattle.bgp_parts.specs.UpdateParts.{shown_part};
-ghost use Rattle.bgp_text.specs.Lines.{Writes};
+ghost use Rattle.bgp_names.specs.Lines.{Writes};
 ghost use Rattle.bgp_why_parts.specs.Updates.{external_text, family_fault, family_word};
 ghost use Rattle.bgp_why_parts.specs.Updates.{fault_text, flags_text, value_text};
 ghost use Rattle.bgp_why_parts.specs.Updates.{part_text, update_parts_by, update_parts_text};
 
 use bgp_attr::Attr;
-use bgp_names::put_attribute_name;
+use bgp_names::{Lines, put_attribute_name};
 use bgp_parts::{AttributeFault, UpdatePart};
 use bgp_prefix::Family;
-use bgp_text::Lines;
 use mrt::Sink;
 
 /// A family.

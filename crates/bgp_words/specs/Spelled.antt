@@ -66,9 +66,10 @@ NamesBy name rows = Names (Some (name, rows))
 abbrev pub NamesDecode : OutputForm → Bool → Text → Option (Text × List Row) → Type 0
 NamesDecode form extended file = IsUsed (codes "decode") (IsStream form extended file)
 
--- `judge` was named, with this configuration, what is told of a recording, what is reported, and this
--- file
-abbrev pub NamesJudge : Config → RecordingOptions → Reporting → Text → Option (Text × List Row) → Type 0
+-- `judge` was named, with this configuration, the options for a recording, what is reported, and
+-- this file
+abbrev pub NamesJudge : Config → RecordingOptions → Reporting → Text → Option (Text × List Row)
+    → Type 0
 NamesJudge config recording reporting file =
     IsUsed (codes "judge") (IsJudge config recording reporting file)
 

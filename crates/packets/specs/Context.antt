@@ -4,8 +4,8 @@ use Rattle.packets.specs.declared.order.Order.{Order}
 use Rattle.packets.specs.declared.blocks.Interface.{Interface}
 use Rattle.packets.specs.declared.headers.Magic.{Magic}
 
--- At the start of the file; as packets of pcap, with this magic number and of links of this type; as
--- blocks of pcapng, with numbers of this order, where these interfaces were described in the section.
+-- At the start of the file; as packets of pcap, with this magic number and of links of this type;
+-- as blocks of pcapng, with numbers of this order, and these interfaces described in the section.
 pub data Context : Type 0 where
   Start : Context
   Packets : Magic → ℕ → Context

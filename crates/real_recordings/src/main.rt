@@ -7,9 +7,10 @@
 //! explained. `checked.txt` and `captures.txt` have recordings and captures that are checked, whose
 //! settings aren't known: by hand, at random with planted oddities, and of real sessions; and where
 //! a verdict is told with the options of `bgp judge`, that is asked by them for the same.
-//! `forms.txt` has files that are neither, made by other programs, and what is told of them.
-//! `offers.txt` has captures and recordings whose OPENs offer several paths for a prefix or IPv6 next
-//! hops of IPv4 routes, judged, explained and checked: rows worked out by hand, and random ones.
+//! `forms.txt` has files that are neither, made by other programs, and what is said of them.
+//! `offers.txt` has captures and recordings whose OPENs offer several paths for a prefix or IPv6
+//! next hops of IPv4 routes, judged, explained and checked: rows worked out by hand, and random
+//! ones.
 //! `slow.txt` has nine recordings, each of which is imported, judged, decoded and checked: of
 //! routers that answer an OPEN late, and of messages in the packet that ends the connection.
 //! `orders.txt` has recordings that are judged over all orders that their packets allow; of `check`
@@ -18,13 +19,13 @@
 //! decoded to JSON: rows worked out by hand, real sessions and random ones, which another program
 //! answered. `reports.txt` has rows of the other tables as reports in HTML, which a script made of
 //! their lines.
-//! `options.txt` was worked out by hand from the RFCs and docs/bgp.1.md: for options of each command
-//! a file whose answer is another one by that option. All these are answered by the function that
-//! answers the program's commands (`answer_to` of bgp_commands), over octets in memory. Each
-//! file is read at once and octet by octet, and what judges does so by the plain tracker and by the
-//! compact one. `words.txt` has command lines, and the command that each spells, or the status and
-//! what is told. `announced.txt` has prefixes that `bgp speak` is to announce, and what is told of
-//! each.
+//! `options.txt` was worked out by hand from the RFCs and docs/bgp.1.md: for options of each
+//! command a file whose answer is another one by that option. All these are answered by the
+//! function that answers the program's commands (`answer_to` of bgp_commands), over octets in
+//! memory. Each file is read at once and octet by octet, and what judges does so by the plain
+//! tracker and by the compact one. `words.txt` has command lines, and the command that each spells,
+//! or the status and the message. `announced.txt` has prefixes that `bgp speak` is to announce,
+//! and the answer for each.
 //!
 //! So are the examples of `bgp judge` in `judge`, from the words of the command line on.
 //!

@@ -43,6 +43,9 @@ fn around_number(line: &str) -> (&str, &str) {
     }
 }
 
+/// How the note of `bgp check` begins that its answer is about one order of the packets.
+static ABOUT_ONE_ORDER: &str = "note: packets do not show when a router handled what it received, ";
+
 /// Whether a text is told as another is printed: in full, or its beginning, where any AS number but
 /// one may be configured.
 fn is_alike(told: &str, printed: &str) -> bool {
@@ -126,10 +129,51 @@ fn begins_so(verdict: &str, answer: &str, counts_alike: bool) -> bool {
     }
 }
 
+/// The record and the packet in the note of `bgp judge` on a no of one order of the packets.
+fn shown_record(note: &str) -> Option<(&str, &str)> {
+    let (record, rest) = note
+        .strip_prefix("note no at record ")?
+        .split_once(": packet ")?;
+    let (packet, rest) = rest.split_once(" shows it; ")?;
+    if rest.starts_with("this is about one order ") {
+        Some((record, packet))
+    } else {
+        None
+    }
+}
+
+/// Whether an answer of `bgp judge` begins with a no at a record, which that packet shows: so it
+/// says the no of one order.
+fn begins_at_record(verdict: &str, answer: &str) -> bool {
+    let Some((record, packet)) = answer.lines().find_map(shown_record) else {
+        return false;
+    };
+    verdict.strip_prefix("no at packet ") == Some(packet) && begins_so_at(record, answer)
+}
+
+/// Whether an answer of `bgp judge` begins with a no at this record.
+fn begins_so_at(record: &str, answer: &str) -> bool {
+    match answer.lines().find_map(|line| line.strip_prefix("> ")) {
+        Some(line) => line.strip_prefix("no at record ") == Some(record),
+        None => false,
+    }
+}
+
+/// Whether an answer of `bgp judge` begins with the verdict that is told with these details.
+fn has_verdict(verdict: &str, details: &[&str], answer: &str, counts_alike: bool) -> bool {
+    let is_no_of_one = verdict.starts_with("no at packet ")
+        && details.iter().any(|told| told.starts_with(ABOUT_ONE_ORDER));
+    if is_no_of_one {
+        begins_at_record(verdict, answer)
+    } else {
+        begins_so(verdict, answer, counts_alike)
+    }
+}
+
 /// Whether what is printed is told: a verdict, and each possible end, or each line of the reason. No
 /// routes are compared.
 fn is_told(told: &str, details: &[&str], answer: &str, counts_alike: bool) -> bool {
-    if !begins_so(verdict_in(told), answer, counts_alike) {
+    if !has_verdict(verdict_in(told), details, answer, counts_alike) {
         return false;
     }
     match told.strip_prefix("yes: ") {

@@ -97,20 +97,21 @@ fn is_text(alloc: Global, size: usize, (status, text): &(u8, &str)) -> Result<bo
     Ok(same(sink.octets(), answer, text.as_bytes(), *status))
 }
 
-/// Sizes of heaps, larger and larger: small ones, and some about the reader's buffer, which has room
-/// for 65535 octets and more.
+/// Sizes of heaps, larger and larger: some about the room of 1024 octets that a line begins with, and
+/// some about the reader's buffer, which has room for 65535 octets and more, alone and beside a line.
 fn size_at(step: usize) -> usize {
-    if step < 32 {
-        step.saturating_mul(16)
+    let size = step.saturating_mul(16);
+    if step < 80 {
+        size
     } else {
-        step.saturating_mul(16).saturating_add((1 << 16) - 512)
+        size.saturating_add((1 << 16) - 1280)
     }
 }
 
 /// Whether larger and larger heaps lead from each text to the next.
 fn are_texts(alloc: Global) -> Result<bool, AllocError> {
     let mut count = 0usize;
-    for step in 1..96 {
+    for step in 1..160 {
         let size = size_at(step);
         let (Some(row), next) = (TEXTS.get(count), TEXTS.get(count.saturating_add(1))) else {
             return Ok(false);

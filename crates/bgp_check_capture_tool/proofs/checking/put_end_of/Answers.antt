@@ -2,7 +2,7 @@ use Rattle.std.proofs.Common.{map}
 use Rattle.mrt_sessions.specs.Located.{located}
 use Rattle.bgp_text.proofs.Pieces.{Joins}
 use Rattle.bgp_check_lines.proofs.Puts.{no_lines}
-use Rattle.bgp_list.specs.Sessions.{session_line}
+use Rattle.bgp_check_lines.specs.Sessions.{session_line}
 use Rattle.bgp_check_capture_tool.proofs.Adds.{fault_added, none_added}
 use Rattle.bgp_check_capture_tool.proofs.checking.put_end_of.Goals as goal
 

@@ -1,9 +1,9 @@
 use Rattle.std.proofs.Common.{◌∙◌, ap, map}
 use Rattle.mrt_sessions.specs.Located.{located}
-use Rattle.bgp_list.specs.Sessions.{session_line}
+use Rattle.bgp_check_lines.specs.Sessions.{session_line}
 use Rattle.bgp_text.proofs.Pieces.{Joins}
 use Rattle.bgp_check_capture_tool.proofs.Adds.{adds_then, session_put}
-use Rattle.bgp_check_text.specs.declared.tally.Tally.{Tally}
+use Rattle.bgp_check_lines.specs.DeclaredTally.{Tally}
 use Rattle.bgp_check_capture_tool.specs.Counted.{with_fault}
 use Rattle.bgp_check_capture_tool.proofs.checking.put_one.Goals as goal
 

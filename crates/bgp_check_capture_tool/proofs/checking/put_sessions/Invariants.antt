@@ -1,7 +1,7 @@
 use Rattle.std.proofs.Common.{List, [], take}
 use Rattle.mrt_sessions.specs.File.{Located}
 use Rattle.mrt_sessions.specs.Sessions.{HoldsSessions, held_sessions}
-use Rattle.bgp_check_text.specs.Tally.{no_tally}
+use Rattle.bgp_check_lines.specs.Tally.{no_tally}
 use Rattle.bgp_check_capture_tool.specs.Checking.{PutsBlocks}
 use Rattle.bgp_check_capture_tool.specs.Firsts.{AreApart}
 use Rattle.bgp_check_capture_tool.proofs.checking.put_sessions.Given as goal

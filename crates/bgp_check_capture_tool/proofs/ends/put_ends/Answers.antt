@@ -3,7 +3,7 @@ use Rattle.mrt.specs.Reader.{shown_of}
 use Rattle.mrt_sessions.specs.File.{Located}
 use Rattle.mrt_sessions.specs.Located.{located}
 use Rattle.mrt_sessions.specs.Reading.{IsReading}
-use Rattle.bgp_list.specs.Sessions.{session_line}
+use Rattle.bgp_check_lines.specs.Sessions.{session_line}
 use Rattle.bgp_check_lines.proofs.Puts.{no_lines}
 use Rattle.bgp_check_capture_tool.proofs.Adds.{nothing_added}
 use Rattle.bgp_check_capture_tool.proofs.WholeSession.{all_told, seen_as}

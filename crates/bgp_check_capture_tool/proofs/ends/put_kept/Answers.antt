@@ -2,7 +2,7 @@ use Rattle.std.proofs.Common.{◌∙◌, Bool, true, [], if◌then◌else◌, su
 use Rattle.bgp_text.proofs.Pieces.{Joins}
 use Rattle.bgp_check_lines.specs.Lines.{PutsLines}
 use Rattle.bgp_check_lines.proofs.Puts.{no_lines}
-use Rattle.bgp_list.specs.Sessions.{session_line}
+use Rattle.bgp_check_lines.specs.Sessions.{session_line}
 use Rattle.mrt_sessions.specs.declared.addresses.Addresses.{Addresses}
 use Rattle.bgp_check_capture_tool.specs.Ends.{Stretch}
 use Rattle.bgp_check_capture_tool.specs.Putting.{Adds, heading_of}

@@ -1,6 +1,6 @@
 use Rattle.std.proofs.Common.{◌∙◌, Bool, [], map, inl, inr, refl, ap, subst}
 use Rattle.mrt.specs.Reader.{shown_of}
-use Rattle.bgp_check_text.specs.declared.tally.Tally.{Tally}
+use Rattle.bgp_check_lines.specs.DeclaredTally.{Tally}
 use Rattle.bgp_check_capture_tool.specs.Counted.{with_ends}
 use Rattle.bgp_check_capture_tool.specs.Ends.{silent_ends}
 use Rattle.bgp_check_capture_tool.specs.Putting.{Adds, heading_of}

@@ -4,7 +4,7 @@ use Rattle.std.proofs.lemmas.List.{length-map}
 use Rattle.bgp_prefix.specs.Shown.{ShownRecord}
 use Rattle.mrt.specs.Reader.{shown_of}
 use Rattle.bgp_text.proofs.Pieces.{Joins}
-use Rattle.bgp_check_text.specs.declared.tally.Tally.{Tally}
+use Rattle.bgp_check_lines.specs.DeclaredTally.{Tally}
 use Rattle.bgp_check_capture_tool.specs.Counted.{with_ends}
 use Rattle.bgp_check_capture_tool.specs.Ends.{Stretch, front_ends}
 use Rattle.bgp_check_capture_tool.specs.Putting.{Adds, heading_of}

@@ -1,6 +1,6 @@
 use Rattle.std.proofs.Common.{refl}
-use Rattle.bgp_ended.specs.Values.{outline_value}
-use Rattle.bgp_list.specs.Lines as lists
+use Rattle.bgp_check_text.specs.Values.{outline_value}
+use Rattle.bgp_json_check.specs.Lines as lists
 use Rattle.bgp_check_lines.specs.Values.{Lists, value_text}
 use Rattle.bgp_check_lines.proofs.Puts.{in_text, one_line}
 use Rattle.bgp_check_lines.proofs.listed.put_connection.Goals as goal

@@ -1,5 +1,5 @@
 use Rattle.std.proofs.Common.{refl}
-use Rattle.bgp_list.specs.Lines as lists
+use Rattle.bgp_json_check.specs.Lines as lists
 use Rattle.bgp_check_lines.specs.Values.{Lists, value_text}
 use Rattle.bgp_check_lines.proofs.Puts.{in_text, one_line}
 use Rattle.bgp_check_lines.proofs.listed.put_refused_between.Goals as goal

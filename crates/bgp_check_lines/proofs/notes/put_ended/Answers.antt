@@ -1,5 +1,5 @@
 use Rattle.std.proofs.Common.{refl}
-use Rattle.bgp_ended.specs.Stretch.{ended_stretch_value}
+use Rattle.bgp_check_text.specs.Stretch.{ended_stretch_value}
 use Rattle.bgp_check_lines.specs.Values.{IsEnded, value_text}
 use Rattle.bgp_check_lines.proofs.Puts.{in_text, one_line}
 use Rattle.bgp_check_lines.proofs.notes.put_ended.Goals as goal

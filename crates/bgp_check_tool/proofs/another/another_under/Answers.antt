@@ -10,19 +10,19 @@ use Rattle.bgp_check_tool.proofs.another.another_under.Goals as goal
 
 pub returns-clause-records : goal.returns-clause-records
 returns-clause-records g c =
-    some_is c.in-Ok-Some.field-0 c.in-Ok-Some.recording (λ made. map shown_of made.records.items ≡ records_of made.entries.items) c.in-Ok-Some.field-0-is
-    (rw c.in-Ok-Some.is at c.record_whole_way.ensures.records)
+    some_is c.in_ok-recording.field-0 c.in-Some.recording (λ made. map shown_of made.records.items ≡ records_of made.entries.items) c.in-Some.is
+    c.in_ok-recording.ensures.records
 
 pub returns-clause-answers : goal.returns-clause-answers
 returns-clause-answers g c =
-    let recording = c.in-Ok-Some.recording in
-    let records = some_is c.in-Ok-Some.field-0 recording (λ made. map shown_of made.records.items ≡ records_of made.entries.items) c.in-Ok-Some.field-0-is
-    (rw c.in-Ok-Some.is at c.record_whole_way.ensures.records) in
-    subst (λ (rs : List ShownRecord). IsAnswerTo c.args.viewed.now.session rs (answer_value c.in-Ok.answer)) (ap (map shown_of) c.deref.ensures.value ∙ records) c.in-Ok.ensures.answer
+    let recording = c.in-Some.recording in
+    let records = some_is c.in_ok-recording.field-0 recording (λ made. map shown_of made.records.items ≡ records_of made.entries.items) c.in-Some.is
+    c.in_ok-recording.ensures.records in
+    subst (λ (rs : List ShownRecord). IsAnswerTo c.args.viewed.now.session rs (answer_value c.in_ok-answer.answer)) (ap (map shown_of) c.deref.ensures.value ∙ records) c.in_ok-answer.ensures.answer
 
 pub returns-clause-way : goal.returns-clause-way
 returns-clause-way g c = λ clocked.
     let viewed = c.args.viewed.now in
-    some_is c.in-Ok-Some.field-0 c.in-Ok-Some.recording
-    (λ made. IsClocked viewed.connection → AreOfAWayOver c.args.framings viewed.options.within viewed.connection made.entries.items made.received made.sent) c.in-Ok-Some.field-0-is
-    (rw c.in-Ok-Some.is at c.record_whole_way.ensures.way) clocked
+    some_is c.in_ok-recording.field-0 c.in-Some.recording
+    (λ made. IsClocked viewed.connection → AreOfAWayOver c.args.framings viewed.options.within viewed.connection made.entries.items made.received made.sent) c.in-Some.is
+    c.in_ok-recording.ensures.way clocked

@@ -6,10 +6,10 @@ use Rattle.bgp_text.proofs.Fresh.{IsFresh}
 use Rattle.bgp_text.proofs.Pieces.{Joins}
 use Rattle.bgp_check_lines.proofs.Printed.{printed_in}
 use Rattle.bgp_check_lines.proofs.Puts.{then_lines}
-use Rattle.bgp_check_text.specs.declared.tally.Tally.{Tally}
+use Rattle.bgp_check_lines.specs.DeclaredTally.{Tally}
 use Rattle.bgp_check_tool.specs.Checking.{PutsAll, refusals_in, tally_from, with_file}
 use Rattle.bgp_check_tool.specs.Judging.{options_by}
-use Rattle.bgp_check_text.specs.declared.settings.Settings.{Settings}
+use Rattle.bgp_check_lines.specs.DeclaredSettings.{Settings}
 use Rattle.bgp_list.specs.Firsts.{AreApart, firsts_after, with_first}
 use Rattle.bgp_list.proofs.AllListed.{none_apart}
 use Rattle.bgp_import.specs.Reading.{IsMemory, IsReadTo, TakesAll, cut_short_at, failures_of, looked_at}

@@ -2,7 +2,7 @@ use Rattle.std.proofs.Common.{◌≡◌, ◌∙◌, true, false, Some, ap, inr, 
 use Rattle.streams.specs.declared.passed.Side.{Side}
 use Rattle.bgp_import.specs.Octets.{octets_from}
 use Rattle.bgp_import.specs.ListText.{other_side}
-use Rattle.bgp_check_text.specs.declared.options.Asked.{Asked}
+use Rattle.bgp_check_lines.specs.DeclaredAsked.{Asked}
 use Rattle.bgp_ended.specs.Outline.{IsOutlineOf}
 use Rattle.bgp_ended.specs.Values.{OutlineValue}
 use Rattle.bgp_check_tool.specs.Told.{IsEndTold, told_value}

@@ -3,7 +3,7 @@ use Rattle.std.proofs.lemmas.Result.{IfOk-weaker}
 use Rattle.bgp_prefix.specs.Shown.{ShownRecord}
 use Rattle.mrt.specs.Reader.{shown_of}
 use Rattle.bgp_recording.specs.Captured.{records_of}
-use Rattle.bgp_check_text.specs.SentDeed.{IsSentDeed, IsSentForm}
+use Rattle.bgp_check_lines.specs.SentDeed.{IsSentDeed, IsSentForm}
 use Rattle.bgp_why.specs.declared.endpoint.Endpoint.{Endpoint}
 use Rattle.bgp_check_tool.specs.Elsewhere.{IsFoundDeed}
 use Rattle.bgp_check_tool.specs.Told.{peer_end}

@@ -4,8 +4,8 @@ use Rattle.mrt.specs.Reader.{shown_of}
 use Rattle.bgp_judge.specs.Verdict.{HasVerdict, verdict_value}
 use Rattle.bgp_parts.specs.Opens.{HasOwnOpen}
 use Rattle.bgp_check.specs.Answered.{IsWidestFor, number_of}
-use Rattle.bgp_check_text.specs.Reason.{IsReasonTo, lines_text}
-use Rattle.bgp_check_text.specs.Places.{shown_places}
+use Rattle.bgp_check_lines.specs.CheckTextReason.{IsReasonTo, lines_text}
+use Rattle.bgp_check_lines.specs.Places.{shown_places}
 use Rattle.bgp_recording.specs.Captured.{records_of}
 use Rattle.bgp_recording.specs.declared.entry.Entry.{Entry}
 use Rattle.bgp_why.specs.declared.endpoint.Endpoint.{Endpoint}

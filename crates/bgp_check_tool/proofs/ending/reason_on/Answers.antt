@@ -2,8 +2,8 @@ use Rattle.std.proofs.Common.{◌≡◌, ◌∙◌, true, ℕ, List, ap, map, su
 use Rattle.bgp_prefix.specs.Shown.{ShownRecord}
 use Rattle.mrt.specs.Reader.{shown_of}
 use Rattle.bgp_check.specs.Answered.{IsAnswerTo, answer_value}
-use Rattle.bgp_check_text.specs.Reason.{IsReasonTo, lines_text}
-use Rattle.bgp_check_text.specs.Places.{shown_places}
+use Rattle.bgp_check_lines.specs.CheckTextReason.{IsReasonTo, lines_text}
+use Rattle.bgp_check_lines.specs.Places.{shown_places}
 use Rattle.bgp_recording.specs.Captured.{records_of}
 use Rattle.bgp_recording.specs.declared.entry.Entry.{Entry}
 use Rattle.bgp_why.specs.declared.endpoint.Endpoint.{Endpoint}

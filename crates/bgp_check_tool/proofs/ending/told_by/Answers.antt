@@ -8,6 +8,9 @@ use Rattle.bgp_check_tool.proofs.ending.told_by.Goals as goal
 pub returns-in-Nothing : goal.returns-in-Nothing
 returns-in-Nothing g c = IfOk-weaker c.told_as_made.result _ _ (λ told is clocked made. is clocked made tt) c.told_as_made.ensures
 
+pub returns-in-NoMemory : goal.returns-in-NoMemory
+returns-in-NoMemory g c = IfOk-weaker c.told_as_made-in-NoMemory.result _ _ (λ told is clocked made. is clocked made tt) c.told_as_made-in-NoMemory.ensures
+
 pub returns-in-TooLong : goal.returns-in-TooLong
 returns-in-TooLong g c = IfOk-weaker c.told_as_made-in-TooLong.result _ _ (λ told is clocked made. is clocked made tt) c.told_as_made-in-TooLong.ensures
 

@@ -1,8 +1,8 @@
 use Rattle.std.proofs.Common.{◌≡◌, ◌∙◌, Bool, Option, None, ap, inl, inr, refl, subst, sym}
 use Rattle.bgp_recording.specs.Captured.{records_of}
-use Rattle.bgp_check_text.specs.Places.{shown_places}
+use Rattle.bgp_check_lines.specs.Places.{shown_places}
 use Rattle.bgp_check.specs.Answered.{answer_value}
-use Rattle.bgp_check_text.specs.Reached.{reached_value}
+use Rattle.bgp_check_lines.specs.Reached.{reached_value}
 use Rattle.bgp_check_tool.specs.declared.orders.NoOrder.{NoOrder}
 use Rattle.bgp_check_tool.specs.Another.{IsYes}
 use Rattle.bgp_check_tool.specs.Orders.{IsKnown}

@@ -1,10 +1,10 @@
 use Rattle.std.proofs.Common.{◌≡◌, ◌∙◌, Bool, Option, Some, ap, inl, refl, subst, sym}
 use Rattle.bgp_recording.specs.Captured.{records_of}
-use Rattle.bgp_check_text.specs.Places.{shown_places}
+use Rattle.bgp_check_lines.specs.Places.{shown_places}
 use Rattle.bgp_judge.specs.Verdict.{verdict_value}
 use Rattle.bgp_check.specs.Answered.{answer_value}
-use Rattle.bgp_check_text.specs.Reached.{reached_value}
-use Rattle.bgp_check_text.specs.declared.options.JudgeOptions.{JudgeOptions}
+use Rattle.bgp_check_lines.specs.Reached.{reached_value}
+use Rattle.bgp_check_lines.specs.JudgeOptions.{JudgeOptions}
 use Rattle.bgp_check_tool.specs.declared.late.Late.{Late}
 use Rattle.bgp_check_tool.specs.declared.orders.NoOrder.{NoOrder}
 use Rattle.bgp_check_tool.specs.About.{judged_value}

@@ -2,9 +2,9 @@ use Rattle.std.proofs.Common.{◌≡◌, ◌∙◌, Bool, ℕ, List, Option, Non
 use Rattle.bgp_recording.specs.Captured.{records_of}
 use Rattle.bgp_recording.specs.declared.entry.Entry.{Entry}
 use Rattle.bgp_judge.specs.Verdict.{Unfinished}
-use Rattle.bgp_check_text.specs.Places.{shown_places}
+use Rattle.bgp_check_lines.specs.Places.{shown_places}
 use Rattle.bgp_check.specs.Answered.{JudgedAs, answer_value}
-use Rattle.bgp_check_text.specs.Reached.{reached_value}
+use Rattle.bgp_check_lines.specs.Reached.{reached_value}
 use Rattle.bgp_check_tool.specs.declared.late.Late.{Late}
 use Rattle.bgp_check_tool.specs.declared.orders.NoOrder.{NoOrder}
 use Rattle.bgp_check_tool.specs.Another.{number_in}

@@ -6,10 +6,10 @@ use Rattle.bgp_open.specs.declared.config.Config.{Config}
 use Rattle.bgp_recording.specs.Captured.{records_of}
 use Rattle.bgp_recording.specs.Gathered.{IsClocked}
 use Rattle.bgp_recording.specs.Recorded.{IsRecordedInOrder}
-use Rattle.bgp_check_text.specs.OwnFaults.{IsToldConfiguration}
-use Rattle.bgp_check_text.specs.Settings.{are_told}
-use Rattle.bgp_check_text.specs.ReadAlike.{AreJudgeOptions}
-use Rattle.bgp_check_text.specs.declared.options.JudgeOptions.{JudgeOptions}
+use Rattle.bgp_check_lines.specs.OwnFaults.{IsToldConfiguration}
+use Rattle.bgp_check_lines.specs.Settings.{are_told}
+use Rattle.bgp_check_lines.specs.ReadAlike.{AreJudgeOptions}
+use Rattle.bgp_check_lines.specs.JudgeOptions.{JudgeOptions}
 use Rattle.bgp_check_tool.specs.Judging.{AreOptionsFor}
 use Rattle.bgp_check_tool.proofs.judging.options_for.Goals as goal
 

@@ -1,10 +1,10 @@
 use Rattle.std.proofs.Common.{Option, ap, subst, sym}
 use Rattle.std.proofs.lemmas.Result.{IfOk-weaker}
 use Rattle.bgp_check.specs.Answered.{AnswerValue, answer_value}
-use Rattle.bgp_check_text.specs.Settings.{are_told}
+use Rattle.bgp_check_lines.specs.Settings.{are_told}
 use Rattle.bgp_recording.specs.Gathered.{IsClocked}
 use Rattle.bgp_recording.specs.Recorded.{IsRecordedInOrder}
-use Rattle.bgp_check_text.specs.declared.options.JudgeOptions.{JudgeOptions}
+use Rattle.bgp_check_lines.specs.JudgeOptions.{JudgeOptions}
 use Rattle.bgp_check_tool.specs.Judging.{AreOptionsFor, AreOptionsTo}
 use Rattle.bgp_check_tool.proofs.judging.options_to.Goals as goal
 

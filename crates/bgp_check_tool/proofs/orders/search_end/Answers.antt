@@ -35,5 +35,5 @@ returns g c =
     subst (λ (rs : List ShownRecord). HasPeersOpen rs peers) (ap (map shown_of) c.deref-2.ensures.value ∙ c.in_ok-received.ensures) c.peers_open-peers.ensures in
     λ clocked.
     said_so viewed.session viewed.options.within c.args.framings viewed.connection exchange tells own peers told.0 c.in-Some.widest has_own has_peers told.1
-    (c.in-Some.ensures.some told.0 told.1) over.wants_peers over.under over.explained (c.in_ok-over.ensures (connection_is_told c.args.framings viewed.connection exchange tells clocked))
+    (c.in-Some.ensures.some told.0 told.1) c.args.known over.wants_peers over.under over.explained (c.in_ok-over.ensures (connection_is_told c.args.framings viewed.connection exchange tells clocked))
     c.peer_as_by-peer_as.result (c.peer_as_by-peer_as.ensures told.0 told.1 ∙ ap (λ (n : ℕ). peer_as_by over.wants_peers told.0 n) c.heard_as.ensures) c.said_of.result c.said_of.ensures

@@ -1,9 +1,9 @@
 use Rattle.std.proofs.Common.{◌≡◌, ◌∙◌, ap, refl, take}
 use Rattle.bgp_text.proofs.Fresh.{IsFresh}
 use Rattle.bgp_text.proofs.Pieces.{and_nothing}
-use Rattle.bgp_why_parts.specs.Cut.{keeps_joined}
-use Rattle.bgp_why_parts.specs.declared.room.Room.{Room}
-use Rattle.bgp_why_parts.proofs.Fronts.{front_of}
+use Rattle.bgp_why.specs.Cut.{keeps_joined}
+use Rattle.bgp_why.specs.Room.{Room}
+use Rattle.bgp_why.proofs.Fronts.{front_of}
 use Rattle.bgp_ended.specs.HowText.{raw_text}
 use Rattle.bgp_ended.proofs.how_text.put_cut_raw.Goals as goal
 

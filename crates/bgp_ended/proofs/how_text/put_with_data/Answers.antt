@@ -1,7 +1,7 @@
 use Rattle.std.proofs.Common.{◌≡◌, ◌≤◌, ◌++◌, ℕ, List, [], ◌∷◌, arith, codes, length, refl, subst, sym}
 use Rattle.bgp_text.proofs.Pieces.{Joins, and_then}
 use Rattle.bgp_text.specs.Lines.{Writes}
-use Rattle.bgp_why_parts.specs.Cut.{cut}
+use Rattle.bgp_why.specs.Cut.{cut}
 use Rattle.bgp_ended.specs.HowText.{raw_text, with_data_text}
 use Rattle.bgp_ended.proofs.how_text.put_with_data.Goals as goal
 

@@ -1,4 +1,4 @@
-use Rattle.bgp_json_verdicts.specs.Lines.{line_text, reason_text}
+use Rattle.bgp_verdict_lines.specs.JsonVerdictsLines.{line_text, reason_text}
 use Rattle.bgp_explain.specs.Skipped.{sessions_line}
 use Rattle.bgp_explain.proofs.skipped.put_sessions.Goals as goal
 

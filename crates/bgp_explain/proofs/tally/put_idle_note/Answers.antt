@@ -1,4 +1,4 @@
-use Rattle.bgp_json_verdicts.specs.Lines.{line_text, reason_text}
+use Rattle.bgp_verdict_lines.specs.JsonVerdictsLines.{line_text, reason_text}
 use Rattle.bgp_verdict_lines.proofs.Puts.{no_lines}
 use Rattle.bgp_explain.proofs.tally.put_idle_note.Goals as goal
 

@@ -4,4 +4,4 @@ use Rattle.bgp_html.proofs.page.put_after_name.Goals as goal
 pub returns : goal.returns
 returns g c =
     let law : Joins g.W.Sink = record { joined = g.met.W.Sink.joined } in
-    and_then law c.put.ensures (and_then law c.put_about.ensures c.put-2.ensures)
+    and_then law c.put.ensures (and_then law c.put_about.ensures (and_then law c.put-2.ensures (and_then law c.put_words.ensures c.put-3.ensures)))

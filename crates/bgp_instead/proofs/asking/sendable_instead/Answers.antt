@@ -8,6 +8,6 @@ pub returns : goal.returns
 returns g c = λ told.
     let config = c.args.config.now in
     let exchange = c.args.exchange.now in
-    let is = some_is c.in_ok-place.field-0 c.in-Some.place (λ place. IsSentPlace config c.args.within exchange c.args.before place) c.in-Some.is c.in_ok-place.ensures in
+    let is = some_is c.in_ok-place.field-0 c.in-Some.place (λ place. IsSentPlace config c.args.within exchange c.args.before place) c.in-Some.is c.in_ok-place.ensures.place in
     subst (λ v. AreSendable (CouldBeSent config c.args.within exchange c.args.before) config v c.in_ok-sendable.sendable) c.last_octets.ensures
     (c.in_ok-sendable.ensures (record { config = config; within = c.args.within; exchange = exchange; before = c.args.before; told = told; is = is }))

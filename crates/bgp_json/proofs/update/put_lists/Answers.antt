@@ -13,5 +13,5 @@ returns g c =
     let said = said_members c.args.reading (parts_with withdrawn c.args.attributes.attributes nlri) in
     let paths = paths_members (is_identified c.args.reading.form V4) withdrawn nlri in
     let hidden = octets_unless (are_lists_spelled withdrawn nlri c.args.octets.now) c.args.octets.now in
-    let put_hidden = rw c.in_ok-is_spelled.ensures at c.put_unless.ensures in
+    let put_hidden = rw c.is_spelled-is_spelled.ensures at c.put_unless.ensures in
     then_members said (paths ++ hidden) c.in_ok-put_said.ensures (then_members paths hidden c.in_ok-put_paths.ensures put_hidden)

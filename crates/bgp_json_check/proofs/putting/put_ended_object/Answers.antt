@@ -1,4 +1,4 @@
-use Rattle.bgp_ended.specs.Values.{how_value}
+use Rattle.bgp_list.specs.Values.{how_value}
 use Rattle.bgp_json.proofs.Lines.{starts_with_nothing, is_written}
 use Rattle.bgp_json_check.specs.Objects.{ended_json}
 use Rattle.bgp_json_check.proofs.Shallow.{ended_shallow}

@@ -1,5 +1,5 @@
 use Rattle.std.proofs.Common.{◌++◌, ◌∷◌, codes}
-use Rattle.bgp_ended.specs.Values.{how_value}
+use Rattle.bgp_list.specs.Values.{how_value}
 use Rattle.bgp_json.proofs.Tokens.{whole}
 use Rattle.bgp_json_values.specs.Objects.{number_of}
 use Rattle.bgp_json_values.proofs.Chains.{then}

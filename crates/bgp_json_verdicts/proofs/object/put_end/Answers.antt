@@ -1,6 +1,6 @@
 use Rattle.std.proofs.Common.{◌∷◌, [], codes}
 use Rattle.json.specs.Json.{string}
-use Rattle.bgp_json.proofs.Tokens.{array}
+use Rattle.bgp_tool.proofs.Tokens.{array}
 use Rattle.bgp_json_values.specs.Objects.{array_of}
 use Rattle.bgp_json_values.proofs.Members.{then_members}
 use Rattle.bgp_json_values.proofs.Members.{member}

@@ -1,4 +1,4 @@
-use Rattle.bgp_json.proofs.Lines.{starts_with_nothing, is_written}
+use Rattle.bgp_tool.proofs.Lines.{starts_with_nothing, is_written}
 use Rattle.bgp_json_verdicts.specs.Lines.{line_value}
 use Rattle.bgp_json_verdicts.specs.Objects.{line_json}
 use Rattle.bgp_json_verdicts.proofs.Shallow.{line_shallow}

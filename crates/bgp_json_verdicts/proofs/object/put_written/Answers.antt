@@ -2,8 +2,8 @@ use Rattle.std.proofs.Common.{◌∙◌, ◌++◌, List, ℕ, ap, refl, subst, I
 use Rattle.json.specs.Print.{print}
 use Rattle.json.specs.Token.{Token}
 use Rattle.bgp_text.proofs.Pieces.{Joins, and_then}
-use Rattle.bgp_json.specs.Object.{json_line}
-use Rattle.bgp_json.proofs.ReadsBack.{reads_back}
+use Rattle.bgp_tool.specs.Object.{json_line}
+use Rattle.bgp_tool.proofs.ReadsBack.{reads_back}
 use Rattle.bgp_json_verdicts.proofs.object.put_written.Goals as goal
 
 pub returns-in-Ok : goal.returns-in-Ok

@@ -1,5 +1,5 @@
 use Rattle.std.proofs.Common.{codes}
-use Rattle.bgp_json.proofs.Tokens.{whole}
+use Rattle.bgp_tool.proofs.Tokens.{whole}
 use Rattle.bgp_json_verdicts.specs.Objects.{opening_members}
 use Rattle.bgp_json_verdicts.proofs.object.write_opening.Goals as goal
 

@@ -1,6 +1,6 @@
 use Rattle.std.proofs.Common.{◌∙◌, codes, length, rules, sym}
 use Rattle.std.proofs.lemmas.Bool.{eqb-false, eqb-true}
-use Rattle.bgp_json.proofs.Tokens.{array}
+use Rattle.bgp_tool.proofs.Tokens.{array}
 use Rattle.bgp_json_values.specs.Objects.{array_of}
 use Rattle.bgp_json_values.proofs.Members.{member}
 use Rattle.bgp_json_verdicts.proofs.Parts.{no_list, some_list}

@@ -1,4 +1,4 @@
-use Rattle.bgp_json.proofs.Tokens.{array}
+use Rattle.bgp_tool.proofs.Tokens.{array}
 use Rattle.bgp_json_values.specs.RoutesJson.{hop_addresses}
 use Rattle.bgp_json_values.specs.Texts.{address_json}
 use Rattle.bgp_json_verdicts.proofs.route.put_hop.Goals as goal

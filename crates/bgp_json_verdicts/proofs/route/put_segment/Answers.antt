@@ -1,4 +1,4 @@
-use Rattle.bgp_json.proofs.Tokens.{array}
+use Rattle.bgp_tool.proofs.Tokens.{array}
 use Rattle.bgp_json_values.specs.Objects.{array_of, number_of}
 use Rattle.bgp_json_verdicts.proofs.Parts.{lone, sequence_values}
 use Rattle.bgp_json_verdicts.proofs.route.put_segment.Goals as goal

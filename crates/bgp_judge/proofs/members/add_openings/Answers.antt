@@ -2,7 +2,7 @@ use Rattle.std.proofs.Common.{◌≡◌, List, option_copied, ap, subst, sym}
 use Rattle.bgp_machine.specs.declared.step.Step.{Step}
 use Rattle.bgp_machine.specs.Listed.{changes_of}
 use Rattle.bgp_machine.specs.State.{state_value}
-use Rattle.bgp_update.specs.Changes.{RouteChanges}
+use Rattle.bgp_machine.specs.Changes.{RouteChanges}
 use Rattle.mrt.specs.Reader.{shown_of}
 use Rattle.bgp_judge.specs.Openings.{ListsOpenings}
 use Rattle.bgp_judge.specs.Plain.{opened_member}

@@ -9,5 +9,6 @@ returns g c =
     let law : Joins g.W.Sink = record { joined = g.met.W.Sink.joined } in
     let ladder = c.args.ladder.now in
     let entry = c.args.entry.now in
-    together (front_pieces ladder c.args.previous c.args.number entry) (deed_pieces ladder.column (shown_of entry.record) c.args.text.now)
+    let before = c.args.before.now in
+    together (front_pieces ladder before.greatest before.previous c.args.number entry) (deed_pieces ladder.column (shown_of entry.record) c.args.text.now)
     (and_then law c.put_front.ensures c.put_shown.ensures)

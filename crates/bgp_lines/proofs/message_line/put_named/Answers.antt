@@ -1,6 +1,6 @@
 use Rattle.std.proofs.Common.{◌≡◌, sym}
 use Rattle.bgp_wire.specs.Header.{header_of, type_of}
-use Rattle.bgp_update.specs.Parts.{parts_of}
+use Rattle.bgp_text.specs.Parts.{parts_of}
 use Rattle.bgp_text.specs.Message.{malformed_open_message, update_message, malformed_update_message}
 use Rattle.bgp_text.proofs.OneMessage.{one_message}
 use Rattle.bgp_lines.proofs.message_line.put_named.Goals as goal

@@ -1,6 +1,6 @@
 use Rattle.std.proofs.Common.{◌≡◌, ◌∙◌, ◌++◌, ◌∷◌, List, sym, ap, append-nil, append_assoc}
 use Rattle.std.specs.List.{flat_map}
-use Rattle.bgp_update.specs.declared.destination.Destination.{Destination}
+use Rattle.bgp_text.specs.Destination.{Destination}
 use Rattle.bgp_text.specs.Text.{destination_text, destinations_text}
 use Rattle.bgp_text.proofs.Joined.{joined}
 use Rattle.bgp_text.proofs.Pieces.{Joins, and_then}

@@ -1,5 +1,5 @@
 use Rattle.std.proofs.Common.{IsTrue}
-use Rattle.bgp_prefix.specs.declared.family.Family.TheVariants.{V4, V6}
+use Rattle.bgp_open.specs.Family.TheVariants.{V4, V6}
 use Rattle.bgp_machine.proofs.UpdateRows.{each_family}
 use Rattle.bgp_machine.proofs.updates.are_disabled_so.Goals as goal
 

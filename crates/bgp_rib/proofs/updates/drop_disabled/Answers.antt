@@ -1,6 +1,6 @@
 use Rattle.std.proofs.Common.{◌≡◌, sym, subst, rules}
 use Rattle.std.specs.Map.{keys_of}
-use Rattle.bgp_open.specs.declared.families.Families.{Families}
+use Rattle.bgp_update.specs.DeclaredFamilies.{Families}
 use Rattle.bgp_rib.specs.Rooms.{routes_in}
 use Rattle.bgp_rib.specs.Routes.{AreOutside}
 use Rattle.bgp_rib.proofs.UpdateLaws.{outside_all}

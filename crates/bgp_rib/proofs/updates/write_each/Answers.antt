@@ -4,8 +4,8 @@ use Rattle.std.proofs.lemmas.List.{take_all}
 use Rattle.std.specs.Map.{keys_of}
 use Rattle.std.specs.Set.{is_member}
 use Rattle.bgp_rib.specs.DestinationOrder.{destination_eq}
-use Rattle.bgp_open.specs.declared.families.Families.{Families}
-use Rattle.bgp_open.specs.Families.{contains}
+use Rattle.bgp_update.specs.DeclaredFamilies.{Families}
+use Rattle.bgp_update.specs.Families.{contains}
 use Rattle.bgp_update.specs.Allowed.{changes_value}
 use Rattle.bgp_rib.specs.Rooms.{routes_in}
 use Rattle.bgp_rib.specs.Routes.{AreOutside, entry_of}

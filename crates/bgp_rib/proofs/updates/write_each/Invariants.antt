@@ -4,7 +4,7 @@ use Rattle.std.specs.Set.{is_member}
 use Rattle.bgp_prefix.specs.declared.family.Family.{Family}
 use Rattle.bgp_update.specs.declared.destination.Destination.{Destination}
 use Rattle.bgp_rib.specs.DestinationOrder.{destination_cmp, destination_eq}
-use Rattle.bgp_open.specs.Families.{contains}
+use Rattle.bgp_update.specs.Families.{contains}
 use Rattle.bgp_rib.specs.Rooms.{routes_in, HasRoom, LeadsBack, HasEach}
 use Rattle.bgp_rib.specs.Routes.{AreOutside}
 use Rattle.bgp_rib.specs.Updates.{applied_value, after_updates, removed_by, enabled_in}

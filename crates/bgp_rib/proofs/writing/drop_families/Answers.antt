@@ -1,5 +1,5 @@
 use Rattle.std.proofs.Common.{◌∙◌, Bool, not, ap, sym, subst}
-use Rattle.bgp_open.specs.Families.{contains}
+use Rattle.bgp_update.specs.Families.{contains}
 use Rattle.bgp_update.specs.declared.destination.Destination.{Destination}
 use Rattle.bgp_rib.specs.DestinationOrder.{destination_cmp}
 use Rattle.bgp_rib.specs.Rooms.{routes_in, HasNoRoom}

@@ -1,7 +1,7 @@
 use Rattle.std.proofs.Common.{◌≡◌, ◌∙◌, ◌++◌, ◌∷◌, List, refl, sym, ap, append-nil, append_assoc}
 use Rattle.std.specs.List.{flat_map}
-use Rattle.bgp_open.specs.Triplet.{Triplet}
-use Rattle.bgp_open.specs.Capability.{capability_of}
+use Rattle.bgp_update.specs.Triplet.{Triplet}
+use Rattle.bgp_update.specs.Capability.{capability_of}
 use Rattle.bgp_text.specs.Text.{capability_text, capabilities_text}
 use Rattle.bgp_text.proofs.Pieces.{Joins, and_then}
 use Rattle.bgp_text.proofs.messages.put_capabilities.Goals as goal

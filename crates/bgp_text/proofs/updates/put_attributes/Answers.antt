@@ -1,7 +1,7 @@
 use Rattle.std.proofs.Common.{◌≡◌, ◌∙◌, ◌++◌, ◌∷◌, List, sym, ap, append-nil, append_assoc}
 use Rattle.std.specs.List.{flat_map}
-use Rattle.bgp_attr.specs.Field.{Attribute, attribute_of}
-use Rattle.bgp_attr.specs.Split.{Split}
+use Rattle.bgp_update.specs.AttrField.{Attribute, attribute_of}
+use Rattle.bgp_update.specs.Split.{Split}
 use Rattle.bgp_text.specs.Text.{attribute_text, attributes_text}
 use Rattle.bgp_text.proofs.Joined.{joined}
 use Rattle.bgp_text.proofs.Pieces.{Joins, and_then}

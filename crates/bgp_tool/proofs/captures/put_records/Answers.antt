@@ -2,8 +2,8 @@ use Rattle.std.proofs.Common.{◌≡◌, ◌∙◌, ◌+◌, ◌++◌, ℕ, List
 use Rattle.mrt.specs.Capture.{joined, records_of}
 use Rattle.mrt.specs.Reader.{ReaderState, shown_of}
 use Rattle.bgp_text.proofs.Pieces.{Joins, nothing_yet, and_then, and_nothing}
-use Rattle.bgp_lines.specs.Form.{Before}
-use Rattle.bgp_lines.specs.Telling.{placed_as}
+use Rattle.bgp_json.specs.Form.{Before}
+use Rattle.bgp_json.specs.LinesTelling.{placed_as}
 use Rattle.bgp_json.specs.Output.{IsJson, IsRecordOutput, Knows}
 use Rattle.bgp_json.specs.declared.output_form.OutputForm.{OutputForm}
 use Rattle.bgp_tool.proofs.CaptureLines.{came_in, nothing_read, allowed_answer, answered, less_left, more_given, stops_at_end, stops_at_fault}

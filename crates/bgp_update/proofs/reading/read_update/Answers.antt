@@ -1,5 +1,5 @@
 use Rattle.std.proofs.Common.{◌↔◌, ℕ, IsTrue, Some, refl, subst}
-use Rattle.bgp_prefix.specs.declared.family.Family.{Family}
+use Rattle.bgp_open.specs.Family.{Family}
 use Rattle.bgp_open.specs.Families.{contains}
 use Rattle.bgp_attr.specs.Split.{attributes_of}
 use Rattle.bgp_update.specs.Allowed.{changes_value}

@@ -1,5 +1,5 @@
 use Rattle.std.proofs.Common.{◌≡◌, length}
-use Rattle.bgp_attr.specs.Segments.{are_segments, number_width}
+use Rattle.bgp_update.specs.Segments.{are_segments, number_width}
 use Rattle.bgp_values.proofs.segments.are_segments.Given as goal
 
 abbrev pub invariant-loop-others : goal.invariant-loop-others

@@ -1,7 +1,7 @@
 use Rattle.std.proofs.Common.{◌∙◌, ◌∷◌, sym, ap}
-use Rattle.bgp_attr.specs.Segments.{are_segments, number_width}
-use Rattle.bgp_attr.specs.PathIn.{segment_at}
-use Rattle.bgp_attr.proofs.WholeSegments.{segments_step}
+use Rattle.bgp_update.specs.Segments.{are_segments, number_width}
+use Rattle.bgp_update.specs.PathIn.{segment_at}
+use Rattle.bgp_update.proofs.WholeSegments.{segments_step}
 use Rattle.bgp_values.specs.PathSegments.{segments_of}
 use Rattle.bgp_values.proofs.SegmentLists.{one_segment, no_segment, at_end, less, same_segment}
 use Rattle.bgp_values.proofs.segments.first_segment.Goals as goal

@@ -1,6 +1,6 @@
 use Rattle.std.proofs.Common.{arith}
-use Rattle.bgp_attr.proofs.WholeSegments.{has}
-use Rattle.bgp_attr.specs.Segments.{number_width}
+use Rattle.bgp_update.proofs.WholeSegments.{has}
+use Rattle.bgp_update.specs.Segments.{number_width}
 use Rattle.bgp_values.proofs.segments.segment_at.Goals as goal
 
 pub bounds-octets-0 : goal.bounds-octets-0

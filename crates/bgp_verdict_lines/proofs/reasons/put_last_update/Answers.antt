@@ -1,5 +1,5 @@
 use Rattle.std.proofs.Common.{map}
-use Rattle.bgp_parts.specs.UpdateParts.{shown_part}
+use Rattle.bgp_why.specs.UpdateParts.{shown_part}
 use Rattle.bgp_why.specs.Applying.{last_update_line, update_asks}
 use Rattle.bgp_verdict_lines.proofs.SameTexts.{received_same}
 use Rattle.bgp_verdict_lines.proofs.Puts.{in_text, one_line}

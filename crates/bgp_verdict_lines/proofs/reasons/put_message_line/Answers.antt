@@ -1,5 +1,5 @@
 use Rattle.std.proofs.Common.{◌++◌, ◌∙◌, ℕ, List, ap, codes, refl}
-use Rattle.bgp_why_parts.specs.Cut.{cut}
+use Rattle.bgp_why.specs.Cut.{cut}
 use Rattle.bgp_json_verdicts.specs.Lines.{Reasons, TheMessage, line_text, reason_text}
 use Rattle.bgp_verdict_lines.proofs.Puts.{failed_line, in_text, one_line}
 use Rattle.bgp_verdict_lines.proofs.reasons.put_message_line.Goals as goal

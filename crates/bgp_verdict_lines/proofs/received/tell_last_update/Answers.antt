@@ -1,5 +1,5 @@
 use Rattle.std.proofs.Common.{map}
-use Rattle.bgp_parts.specs.UpdateParts.{shown_part}
+use Rattle.bgp_why.specs.UpdateParts.{shown_part}
 use Rattle.bgp_why.specs.Applying.{update_asks}
 use Rattle.bgp_why.specs.Message.{name_text}
 use Rattle.bgp_verdict_lines.proofs.received.tell_last_update.Goals as goal

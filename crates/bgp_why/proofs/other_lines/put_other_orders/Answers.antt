@@ -1,5 +1,5 @@
 use Rattle.std.proofs.Common.{subst}
-use Rattle.bgp_reason.specs.declared.kinds.Possible.{Possible}
+use Rattle.bgp_why_parts.specs.DeclaredPossible.{Possible}
 use Rattle.bgp_text.specs.Lines.{Writes}
 use Rattle.bgp_why.specs.Items.{all_items, those_possible}
 use Rattle.bgp_why.specs.Possible.{other_item_lines}

@@ -1,4 +1,4 @@
-use Rattle.bgp_text.proofs.Pieces.{Joins, and_then}
+use Rattle.bgp_names.proofs.Pieces.{Joins, and_then}
 use Rattle.bgp_why_parts.specs.Codes.{code_text}
 use Rattle.bgp_why_parts.proofs.codes.put_code.Goals as goal
 

@@ -1,6 +1,6 @@
 use Rattle.std.proofs.Common.{◌≤◌, ◌<◌, List, ℕ, subst}
-use Rattle.bgp_text.proofs.Pieces.{Joins, and_then}
-use Rattle.bgp_text.specs.Lines.{Writes}
+use Rattle.bgp_names.proofs.Pieces.{Joins, and_then}
+use Rattle.bgp_names.specs.Lines.{Writes}
 use Rattle.bgp_why_parts.proofs.Fronts.{cut_long, cut_short}
 use Rattle.bgp_why_parts.proofs.cut.put_cut.Goals as goal
 

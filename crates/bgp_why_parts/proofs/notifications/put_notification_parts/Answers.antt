@@ -1,5 +1,5 @@
 use Rattle.std.proofs.Common.{◌∷◌, [], codes}
-use Rattle.bgp_text.proofs.Pieces.{Joins, and_then}
+use Rattle.bgp_names.proofs.Pieces.{Joins, and_then}
 use Rattle.bgp_why_parts.specs.Notifications.{word_piece, early_piece}
 use Rattle.bgp_why_parts.proofs.Separated.{piece_by_piece}
 use Rattle.bgp_why_parts.proofs.notifications.put_notification_parts.Goals as goal

@@ -1,5 +1,5 @@
 use Rattle.std.proofs.Common.{append-nil}
-use Rattle.bgp_text.proofs.Pieces.{Joins, and_then, nothing_yet}
+use Rattle.bgp_names.proofs.Pieces.{Joins, and_then, nothing_yet}
 use Rattle.bgp_why_parts.proofs.offers.put_word.Goals as goal
 
 pub returns-then-not-is_offered-clause-writes : goal.returns-then-not-is_offered-clause-writes

@@ -1,6 +1,6 @@
 use Rattle.std.proofs.Common.{codes, []}
 use Rattle.std.specs.Bool.{then_some}
-use Rattle.bgp_text.proofs.Pieces.{Joins, and_then}
+use Rattle.bgp_names.proofs.Pieces.{Joins, and_then}
 use Rattle.bgp_why_parts.proofs.Separated.{five_pieces}
 use Rattle.bgp_why_parts.proofs.offers.put_words.Goals as goal
 

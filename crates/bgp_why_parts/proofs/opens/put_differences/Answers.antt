@@ -1,5 +1,5 @@
 use Rattle.std.proofs.Common.{codes, []}
-use Rattle.bgp_text.proofs.Pieces.{Joins, and_then}
+use Rattle.bgp_names.proofs.Pieces.{Joins, and_then}
 use Rattle.bgp_why_parts.specs.Opens.{number_piece, id_piece, families_piece, as_number_piece, extended_piece, offers_piece}
 use Rattle.bgp_why_parts.proofs.Separated.{seven_pieces}
 use Rattle.bgp_why_parts.proofs.opens.put_differences.Goals as goal

@@ -1,5 +1,5 @@
 use Rattle.std.proofs.Common.{append-nil}
-use Rattle.bgp_text.proofs.Pieces.{Joins, and_then, nothing_yet}
+use Rattle.bgp_names.proofs.Pieces.{Joins, and_then, nothing_yet}
 use Rattle.bgp_why_parts.proofs.opens.put_id.Goals as goal
 
 pub returns-in_default-clause-writes : goal.returns-in_default-clause-writes

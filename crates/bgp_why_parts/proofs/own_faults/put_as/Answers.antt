@@ -1,5 +1,5 @@
 use Rattle.std.proofs.Common.{◌∙◌}
-use Rattle.bgp_text.proofs.Pieces.{Joins, and_then}
+use Rattle.bgp_names.proofs.Pieces.{Joins, and_then}
 use Rattle.bgp_why_parts.proofs.FaultTexts.{text_of_odd, text_of_zero}
 use Rattle.bgp_why_parts.proofs.own_faults.put_as.Goals as goal
 

@@ -1,4 +1,4 @@
-use Rattle.bgp_text.proofs.Pieces.{Joins, and_then}
+use Rattle.bgp_names.proofs.Pieces.{Joins, and_then}
 use Rattle.bgp_why_parts.proofs.own_faults.put_id.Goals as goal
 
 pub returns-clause-writes : goal.returns-clause-writes

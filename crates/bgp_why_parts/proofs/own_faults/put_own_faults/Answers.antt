@@ -1,5 +1,5 @@
 use Rattle.std.proofs.Common.{codes}
-use Rattle.bgp_text.proofs.Pieces.{Joins, and_then}
+use Rattle.bgp_names.proofs.Pieces.{Joins, and_then}
 use Rattle.bgp_why_parts.specs.OwnFaults.{as_piece, hold_piece, id_piece}
 use Rattle.bgp_why_parts.proofs.Separated.{three_pieces}
 use Rattle.bgp_why_parts.proofs.own_faults.put_own_faults.Goals as goal

@@ -1,7 +1,7 @@
 use Rattle.std.proofs.Common.{◌∙◌, List, ℕ, length, subst, sym}
 use Rattle.std.proofs.lemmas.Bool.{eqb-false, eqb-true}
-use Rattle.bgp_text.proofs.Pieces.{Joins, and_then, nothing_yet}
-use Rattle.bgp_text.specs.Lines.{Writes}
+use Rattle.bgp_names.proofs.Pieces.{Joins, and_then, nothing_yet}
+use Rattle.bgp_names.specs.Lines.{Writes}
 use Rattle.bgp_why_parts.proofs.Behind.{none_behind, some_behind}
 use Rattle.bgp_why_parts.proofs.parts.put_behind.Goals as goal
 

@@ -1,6 +1,6 @@
 use Rattle.std.proofs.Common.{◌≡◌, ◌∙◌, ap, refl, take}
-use Rattle.bgp_text.proofs.Fresh.{IsFresh}
-use Rattle.bgp_text.proofs.Pieces.{and_nothing}
+use Rattle.bgp_names.proofs.Fresh.{IsFresh}
+use Rattle.bgp_names.proofs.Pieces.{and_nothing}
 use Rattle.bgp_why_parts.specs.Cut.{keeps_joined}
 use Rattle.bgp_why_parts.specs.Parts.{parts_text, shown}
 use Rattle.bgp_why_parts.proofs.Fronts.{front_of}

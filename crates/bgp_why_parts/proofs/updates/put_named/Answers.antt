@@ -1,4 +1,4 @@
-use Rattle.bgp_text.proofs.Pieces.{Joins, and_then}
+use Rattle.bgp_names.proofs.Pieces.{Joins, and_then}
 use Rattle.bgp_why_parts.proofs.updates.put_named.Goals as goal
 
 pub returns : goal.returns

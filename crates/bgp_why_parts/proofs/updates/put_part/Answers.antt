@@ -1,5 +1,5 @@
 use Rattle.bgp_why_parts.specs.Updates.{part_text}
-use Rattle.bgp_text.proofs.Pieces.{Joins, and_then}
+use Rattle.bgp_names.proofs.Pieces.{Joins, and_then}
 use Rattle.bgp_why_parts.proofs.updates.put_part.Goals as goal
 
 pub returns-in-LengthsRunOver : goal.returns-in-LengthsRunOver

@@ -1,7 +1,7 @@
 use Rattle.std.proofs.Common.{◌++◌, [], get_or, map, refl}
 use Rattle.bgp_parts.specs.declared.update.UpdatePart.TheVariants as parts
 use Rattle.bgp_parts.specs.UpdateParts.{shown_part}
-use Rattle.bgp_text.proofs.Pieces.{Joins, and_then, nothing_yet}
+use Rattle.bgp_names.proofs.Pieces.{Joins, and_then, nothing_yet}
 use Rattle.bgp_why_parts.specs.Updates.{part_text, update_parts_text}
 use Rattle.bgp_why_parts.proofs.PartByPart.{one_more, none_left}
 use Rattle.bgp_why_parts.proofs.updates.put_update_parts.Goals as goal

@@ -1,6 +1,6 @@
 use Rattle.std.proofs.Common.{◌≡◌, ◌++◌, List, ℕ, drop, map}
 use Rattle.bgp_parts.specs.UpdateParts.{shown_part}
-use Rattle.bgp_text.specs.Lines.{Writes}
+use Rattle.bgp_names.specs.Lines.{Writes}
 use Rattle.bgp_why_parts.specs.Updates.{update_parts_by, update_parts_text}
 use Rattle.bgp_why_parts.proofs.updates.put_update_parts.Given as goal
 

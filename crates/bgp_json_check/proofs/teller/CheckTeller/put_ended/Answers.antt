@@ -1,5 +1,5 @@
 use Rattle.std.proofs.Common.{◌∷◌, []}
-use Rattle.bgp_ended.specs.Values.{how_value}
+use Rattle.bgp_list.specs.Values.{how_value}
 use Rattle.bgp_json_check.specs.Objects.{ended_json}
 use Rattle.bgp_json_check.proofs.Told.{still_failed, told_more, told_none}
 use Rattle.bgp_json_check.proofs.teller.CheckTeller.put_ended.Goals as goal

@@ -1,8 +1,8 @@
 use Rattle.std.proofs.Common.{◌∙◌, sym, ap, subst}
 use Rattle.std.specs.Map.{keys_of}
-use Rattle.bgp_open.specs.declared.families.Families.{Families}
+use Rattle.bgp_update.specs.DeclaredFamilies.{Families}
 use Rattle.bgp_rib.specs.Rooms.{routes_in}
-use Rattle.bgp_open.specs.Families.{union}
+use Rattle.bgp_update.specs.Families.{union}
 use Rattle.bgp_rib.specs.Routes.{AreOutside, only, routes_without}
 use Rattle.bgp_rib.proofs.RouteLemmas.{disabled_before, outside_both, seen_dropped}
 use Rattle.bgp_rib.proofs.rib_in.RibIn.disable.Goals as goal

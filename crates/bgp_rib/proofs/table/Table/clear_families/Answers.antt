@@ -1,5 +1,5 @@
 use Rattle.std.proofs.Common.{◌∙◌, ap, not, filter}
-use Rattle.bgp_open.specs.Families.{contains}
+use Rattle.bgp_update.specs.Families.{contains}
 use Rattle.bgp_rib.specs.Keys.{joined}
 use Rattle.bgp_rib.proofs.Joined.{joined_outside}
 use Rattle.bgp_rib.proofs.table.Table.clear_families.Goals as goal

@@ -1,0 +1,50 @@
+-- No row is a line that is printed as text.
+use Rattle.std.proofs.Common.{◌≡◌, ◌∙◌, ◌++◌, ℕ, List, [], ◌∷◌, Option, None, refl, ap}
+use Rattle.std.proofs.lemmas.Grind.{flat_map-append}
+use Rattle.bgp_html.specs.Pieces.{Piece, piece_lines, printed_of}
+use Rattle.bgp_html.specs.declared.tag.Column.{Column}
+use Rattle.bgp_prefix.specs.Shown.{ShownRecord, Received as In, Sent as Out, Changed}
+use Rattle.bgp_recording.specs.declared.entry.Entry.{Entry}
+use Rattle.bgp_values.specs.declared.opens.Opens.{Opens}
+use Rattle.mrt.specs.Reader.{shown_of}
+use Rattle.bgp_ladder.specs.Ladder.{AreRowsBetween, IsOwnRow, IsRowOf, RowsAreNotPrinted, count_pieces, deed_pieces, front_pieces, kind_pieces, number_words}
+use Rattle.bgp_ladder.specs.declared.rows.Ladder.{Ladder}
+use Rattle.bgp_ladder.specs.declared.runs.Part.{Part}
+use Rattle.bgp_ladder.specs.declared.runs.Part.TheVariants as parts
+
+-- those of two lists
+both : (pieces more : List Piece) → printed_of pieces ≡ [] → printed_of more ≡ [] → printed_of (pieces ++ more) ≡ []
+both pieces more none nor = flat_map-append piece_lines pieces more ∙ ap (λ (o : List ℕ). o ++ printed_of more) none ∙ nor
+
+of_deed : (column : Column) (shown : ShownRecord) (text : List ℕ) → printed_of (deed_pieces column shown text) ≡ []
+of_deed column (In second octets) text = refl
+of_deed column (Out second octets) text = refl
+of_deed column (Changed second old new) text = refl
+
+of_kind : (shown : ShownRecord) → printed_of (kind_pieces shown) ≡ []
+of_kind (In second octets) = refl
+of_kind (Out second octets) = refl
+of_kind (Changed second old new) = refl
+
+module _ (ladder : Ladder) (opens : Opens) (greatest : ℕ) (previous : Option Entry) (number : ℕ) (entry : Entry) where
+  own_row : (shown : Option Entry) (row : List Piece) → IsOwnRow ladder opens greatest previous number entry shown row → printed_of row ≡ []
+  own_row shown row (text, deed, is) =
+      ap (λ (ps : List Piece). printed_of ps) is
+      ∙ both (front_pieces ladder greatest shown number entry) (deed_pieces ladder.column (shown_of entry.record) text) refl (of_deed ladder.column (shown_of entry.record) text)
+
+  one_row : (part : Part) (row : List Piece) → IsRowOf ladder opens greatest previous number entry part row → printed_of row ≡ []
+  one_row parts.Own row is = own_row previous row is
+  one_row parts.Last row is = own_row None row is
+  one_row (parts.Sum count) row is =
+      ap (λ (ps : List Piece). printed_of ps) is
+      ∙ both (count_pieces count (shown_of entry.record)) (number_words _ _) (of_kind (shown_of entry.record)) refl
+  one_row parts.Summed row is = ap (λ (ps : List Piece). printed_of ps) is
+
+rows : (ladder : Ladder) (earlier entries later : List Entry) (pieces : List Piece) → AreRowsBetween ladder earlier entries later pieces → printed_of pieces ≡ []
+rows ladder earlier [] later pieces is = ap (λ (ps : List Piece). printed_of ps) is
+rows ladder earlier (entry ∷ entries) later pieces (row, rest, (opens, known, its), more, whole) =
+    ap (λ (ps : List Piece). printed_of ps) whole
+    ∙ both row rest (one_row ladder opens _ _ _ entry _ row its) (rows ladder (earlier ++ entry ∷ []) entries later rest more)
+
+pub not_printed : RowsAreNotPrinted
+not_printed ladder entries later pieces are = rows ladder [] entries later pieces are

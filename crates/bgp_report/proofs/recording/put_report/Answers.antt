@@ -1,0 +1,87 @@
+use Rattle.std.proofs.Common.{◌∙◌}
+use Rattle.bgp_text.proofs.Pieces.{Joins}
+use Rattle.bgp_check_tool.specs.Marks.{marks_of}
+use Rattle.bgp_report.proofs.Memory.{laddered_of, printed_of}
+use Rattle.bgp_report.proofs.Written.{all_marks, put_whole}
+use Rattle.bgp_report.proofs.recording.put_report.Goals as goal
+
+pub put_ladders-requires : goal.put_ladders-requires
+put_ladders-requires g c =
+    let marked = c.check_marking-checked.ensures.all in
+    (c.args.options.now.port, marked.checks.packets, marked.held)
+
+pub returns-clause-no : goal.returns-clause-no
+returns-clause-no g c =
+    let law : Joins g.W.Sink = record { joined = g.met.W.Sink.joined } in
+    let begun = c.args.report in
+    let from = c.put_head.new.self in
+    let to = c.check_marking-checked.new.sink in
+    let loose = c.into_lines-lines.result in
+    let head = rw c.as_bytes.ensures.value at c.put_head.ensures.writes in
+    let marked = c.check_marking-checked.ensures.all in
+    let all = marks_of c.args.options.now.printing marked.checks.blocks in
+    let put = c.put_ladders.ensures c.args.options.now.port marked.checks.packets all marked.held
+    (all_marks c.new-marks.result c.check_marking-checked.new.marks all marked.marked c.new-marks.ensures.both) in
+    let took = printed_of _ from to _ _ g.R.Source.failures _ _ _ _ _ _ c.check_marking-checked.ensures.no c.requires.form in
+    let ends = rw (← c.into_lines-lines.ensures) at c.end.ensures in
+    put_whole law c.args.name.now _ begun.lines from.lines to.lines loose c.put_ladders.new.lines
+    from.kind to.kind from.front.items to.front.items c.check_marking-checked.result.status
+    (c.put_head.ensures.kind ∙ c.requires.kind) (c.put_head.ensures.front ∙ c.requires.front) head
+    took.0 took.1 ends put.0 put.2 put.3 took.2
+
+pub returns-clause-yes : goal.returns-clause-yes
+returns-clause-yes g c =
+    let law : Joins g.W.Sink = record { joined = g.met.W.Sink.joined } in
+    let begun = c.args.report in
+    let from = c.put_head.new.self in
+    let to = c.check_marking-checked.new.sink in
+    let loose = c.into_lines-lines.result in
+    let head = rw c.as_bytes.ensures.value at c.put_head.ensures.writes in
+    let marked = c.check_marking-checked.ensures.all in
+    let all = marks_of c.args.options.now.printing marked.checks.blocks in
+    let put = c.put_ladders.ensures c.args.options.now.port marked.checks.packets all marked.held
+    (all_marks c.new-marks.result c.check_marking-checked.new.marks all marked.marked c.new-marks.ensures.both) in
+    let took = printed_of _ from to _ _ g.R.Source.failures _ _ _ _ _ _ c.check_marking-checked.ensures.yes c.requires.form in
+    let ends = rw (← c.into_lines-lines.ensures) at c.end.ensures in
+    put_whole law c.args.name.now _ begun.lines from.lines to.lines loose c.put_ladders.new.lines
+    from.kind to.kind from.front.items to.front.items c.check_marking-checked.result.status
+    (c.put_head.ensures.kind ∙ c.requires.kind) (c.put_head.ensures.front ∙ c.requires.front) head
+    took.0 took.1 ends put.0 put.2 put.3 took.2
+
+pub returns-clause-unfinished : goal.returns-clause-unfinished
+returns-clause-unfinished g c =
+    let law : Joins g.W.Sink = record { joined = g.met.W.Sink.joined } in
+    let begun = c.args.report in
+    let from = c.put_head.new.self in
+    let to = c.check_marking-checked.new.sink in
+    let loose = c.into_lines-lines.result in
+    let head = rw c.as_bytes.ensures.value at c.put_head.ensures.writes in
+    let marked = c.check_marking-checked.ensures.all in
+    let all = marks_of c.args.options.now.printing marked.checks.blocks in
+    let put = c.put_ladders.ensures c.args.options.now.port marked.checks.packets all marked.held
+    (all_marks c.new-marks.result c.check_marking-checked.new.marks all marked.marked c.new-marks.ensures.both) in
+    let took = printed_of _ from to _ _ g.R.Source.failures _ _ _ _ _ _ c.check_marking-checked.ensures.unfinished c.requires.form in
+    let ends = rw (← c.into_lines-lines.ensures) at c.end.ensures in
+    put_whole law c.args.name.now _ begun.lines from.lines to.lines loose c.put_ladders.new.lines
+    from.kind to.kind from.front.items to.front.items c.check_marking-checked.result.status
+    (c.put_head.ensures.kind ∙ c.requires.kind) (c.put_head.ensures.front ∙ c.requires.front) head
+    took.0 took.1 ends put.0 put.2 put.3 took.2
+
+pub returns-clause-all : goal.returns-clause-all
+returns-clause-all g c =
+    let law : Joins g.W.Sink = record { joined = g.met.W.Sink.joined } in
+    let begun = c.args.report in
+    let from = c.put_head.new.self in
+    let to = c.check_marking-checked.new.sink in
+    let loose = c.into_lines-lines.result in
+    let head = rw c.as_bytes.ensures.value at c.put_head.ensures.writes in
+    let marked = c.check_marking-checked.ensures.all in
+    let all = marks_of c.args.options.now.printing marked.checks.blocks in
+    let put = c.put_ladders.ensures c.args.options.now.port marked.checks.packets all marked.held
+    (all_marks c.new-marks.result c.check_marking-checked.new.marks all marked.marked c.new-marks.ensures.both) in
+    let took = laddered_of _ from to _ _ g.R.Source.failures _ _ _ _ _ _ _ _ _ _ _ put.0 marked c.requires.form put.1 in
+    let ends = rw (← c.into_lines-lines.ensures) at c.end.ensures in
+    put_whole law c.args.name.now _ begun.lines from.lines to.lines loose c.put_ladders.new.lines
+    from.kind to.kind from.front.items to.front.items c.check_marking-checked.result.status
+    (c.put_head.ensures.kind ∙ c.requires.kind) (c.put_head.ensures.front ∙ c.requires.front) head
+    took.0 took.1 ends put.0 put.2 put.3 took.2

@@ -1,0 +1,10 @@
+pub mod InPlace
+pub mod Dotted
+pub mod Threes
+pub mod HexDigits
+pub mod Decimals
+pub mod Plain
+pub mod Joined
+pub mod ZeroRuns
+pub mod Groups
+pub mod Tokens

@@ -1,0 +1,14 @@
+use Rattle.std.proofs.Common.{◌++◌, ◌∷◌, arith, decimal, refl, true}
+use Rattle.bgp_prefix.specs.Text.{address_text}
+use Rattle.bgp_prefix.specs.declared.address.Address.TheVariants.{V6}
+use Rattle.json_writer.proofs.Groups.{ipv6_prefix_plain}
+use Rattle.json.specs.Token.{string}
+use Rattle.json_writer.proofs.Tokens.{plain_put, writes}
+use Rattle.json_writer.proofs.writer.Writer.ipv6_prefix.Goals as goal
+
+pub invariant_of-self-2 : goal.invariant_of-self-2
+invariant_of-self-2 g c = (plain_put c.self.inside _ c.self.invariant (address_text (V6 c.args.address) ++ 47 ∷ decimal c.args.bits) (ipv6_prefix_plain c.args.address c.args.bits (omega arith)) refl c.make_room.new.self.items c.in_ok-make_room.ensures.items c.put_ipv6_prefix.ensures).0
+
+pub returns : goal.returns
+returns g c =
+    writes c.self.inside (record c.self.inside { out = c.put_ipv6_prefix.new.self; after_value = true }) c.args.self.now (string (address_text (V6 c.args.address) ++ 47 ∷ decimal c.args.bits)) c.self.view_is (plain_put c.self.inside (record c.self.inside { out = c.put_ipv6_prefix.new.self; after_value = true }) c.self.invariant (address_text (V6 c.args.address) ++ 47 ∷ decimal c.args.bits) (ipv6_prefix_plain c.args.address c.args.bits (omega arith)) refl c.make_room.new.self.items c.in_ok-make_room.ensures.items c.put_ipv6_prefix.ensures).1

@@ -1,0 +1,12 @@
+use Rattle.std.proofs.Common.{[], ◌∷◌, refl, false, true}
+use Rattle.json.specs.Token.{boolean}
+use Rattle.json.proofs.Printed.Utf8.{IsUtf8-are_ascii}
+use Rattle.json_writer.proofs.Tokens.{value_put, writes}
+use Rattle.json_writer.proofs.writer.Writer.put_false.Goals as goal
+
+pub invariant_of-self-2 : goal.invariant_of-self-2
+invariant_of-self-2 g c = (value_put c.self.inside _ c.self.invariant (boolean false) refl tt refl c.make_room.new.self.items (102 ∷ 97 ∷ 108 ∷ 115 ∷ 101 ∷ []) c.in_ok-make_room.ensures.items c.put.ensures refl (IsUtf8-are_ascii (102 ∷ 97 ∷ 108 ∷ 115 ∷ 101 ∷ []) refl)).0
+
+pub returns : goal.returns
+returns g c =
+    writes c.self.inside (record c.self.inside { out = c.put.new.self; after_value = true }) c.args.self.now (boolean false) c.self.view_is (value_put c.self.inside (record c.self.inside { out = c.put.new.self; after_value = true }) c.self.invariant (boolean false) refl tt refl c.make_room.new.self.items (102 ∷ 97 ∷ 108 ∷ 115 ∷ 101 ∷ []) c.in_ok-make_room.ensures.items c.put.ensures refl (IsUtf8-are_ascii (102 ∷ 97 ∷ 108 ∷ 115 ∷ 101 ∷ []) refl)).1

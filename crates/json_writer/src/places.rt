@@ -1,0 +1,290 @@
+//! Short texts, written where they stand.
+//!
+//! Each function writes behind the first places, up to `at`, and returns where its text ends. It
+//! leaves what stands before `at`, and may overwrite some places behind its text.
+
+ghost use Rattle.std.specs.Prelude.{◌≡◌, ◌<◌, ◌≤◌, ◌+◌, ◌*◌, ◌++◌, ◌∷◌, [], codes, length};
+ghost use Rattle.std.specs.Fmt.{decimal};
+ghost use Rattle.hex.specs.Hex.{encode_lower};
+ghost use Rattle.bgp_prefix.specs.Text.{address_text};
+ghost use Rattle.bgp_prefix.specs.declared.address.Address.TheVariants.{V4};
+ghost use Rattle.json_writer.specs.Places.{Puts, comma_text, three_digits};
+ghost use Rattle.json_writer.specs.Plain.{ArePlain};
+
+/// How many places three digits need, with a dot behind them.
+const FOUR: usize = 4;
+
+/// Each octet in decimal, with a dot behind it, in four places.
+static DOTTED: [u8; 1024] =
+    *b"0.  1.  2.  3.  4.  5.  6.  7.  8.  9.  10. 11. 12. 13. 14. 15. 16. 17. 18. 19. \
+    20. 21. 22. 23. 24. 25. 26. 27. 28. 29. 30. 31. 32. 33. 34. 35. 36. 37. 38. 39. \
+    40. 41. 42. 43. 44. 45. 46. 47. 48. 49. 50. 51. 52. 53. 54. 55. 56. 57. 58. 59. \
+    60. 61. 62. 63. 64. 65. 66. 67. 68. 69. 70. 71. 72. 73. 74. 75. 76. 77. 78. 79. \
+    80. 81. 82. 83. 84. 85. 86. 87. 88. 89. 90. 91. 92. 93. 94. 95. 96. 97. 98. 99. \
+    100.101.102.103.104.105.106.107.108.109.110.111.112.113.114.115.116.117.118.119.\
+    120.121.122.123.124.125.126.127.128.129.130.131.132.133.134.135.136.137.138.139.\
+    140.141.142.143.144.145.146.147.148.149.150.151.152.153.154.155.156.157.158.159.\
+    160.161.162.163.164.165.166.167.168.169.170.171.172.173.174.175.176.177.178.179.\
+    180.181.182.183.184.185.186.187.188.189.190.191.192.193.194.195.196.197.198.199.\
+    200.201.202.203.204.205.206.207.208.209.210.211.212.213.214.215.216.217.218.219.\
+    220.221.222.223.224.225.226.227.228.229.230.231.232.233.234.235.236.237.238.239.\
+    240.241.242.243.244.245.246.247.248.249.250.251.252.253.254.255.";
+
+/// Each number below 1000 with three digits and a dot behind them; and four places more.
+static THREES: [u8; 4004] =
+    *b"000.001.002.003.004.005.006.007.008.009.010.011.012.013.014.015.016.017.018.019.\
+    020.021.022.023.024.025.026.027.028.029.030.031.032.033.034.035.036.037.038.039.\
+    040.041.042.043.044.045.046.047.048.049.050.051.052.053.054.055.056.057.058.059.\
+    060.061.062.063.064.065.066.067.068.069.070.071.072.073.074.075.076.077.078.079.\
+    080.081.082.083.084.085.086.087.088.089.090.091.092.093.094.095.096.097.098.099.\
+    100.101.102.103.104.105.106.107.108.109.110.111.112.113.114.115.116.117.118.119.\
+    120.121.122.123.124.125.126.127.128.129.130.131.132.133.134.135.136.137.138.139.\
+    140.141.142.143.144.145.146.147.148.149.150.151.152.153.154.155.156.157.158.159.\
+    160.161.162.163.164.165.166.167.168.169.170.171.172.173.174.175.176.177.178.179.\
+    180.181.182.183.184.185.186.187.188.189.190.191.192.193.194.195.196.197.198.199.\
+    200.201.202.203.204.205.206.207.208.209.210.211.212.213.214.215.216.217.218.219.\
+    220.221.222.223.224.225.226.227.228.229.230.231.232.233.234.235.236.237.238.239.\
+    240.241.242.243.244.245.246.247.248.249.250.251.252.253.254.255.256.257.258.259.\
+    260.261.262.263.264.265.266.267.268.269.270.271.272.273.274.275.276.277.278.279.\
+    280.281.282.283.284.285.286.287.288.289.290.291.292.293.294.295.296.297.298.299.\
+    300.301.302.303.304.305.306.307.308.309.310.311.312.313.314.315.316.317.318.319.\
+    320.321.322.323.324.325.326.327.328.329.330.331.332.333.334.335.336.337.338.339.\
+    340.341.342.343.344.345.346.347.348.349.350.351.352.353.354.355.356.357.358.359.\
+    360.361.362.363.364.365.366.367.368.369.370.371.372.373.374.375.376.377.378.379.\
+    380.381.382.383.384.385.386.387.388.389.390.391.392.393.394.395.396.397.398.399.\
+    400.401.402.403.404.405.406.407.408.409.410.411.412.413.414.415.416.417.418.419.\
+    420.421.422.423.424.425.426.427.428.429.430.431.432.433.434.435.436.437.438.439.\
+    440.441.442.443.444.445.446.447.448.449.450.451.452.453.454.455.456.457.458.459.\
+    460.461.462.463.464.465.466.467.468.469.470.471.472.473.474.475.476.477.478.479.\
+    480.481.482.483.484.485.486.487.488.489.490.491.492.493.494.495.496.497.498.499.\
+    500.501.502.503.504.505.506.507.508.509.510.511.512.513.514.515.516.517.518.519.\
+    520.521.522.523.524.525.526.527.528.529.530.531.532.533.534.535.536.537.538.539.\
+    540.541.542.543.544.545.546.547.548.549.550.551.552.553.554.555.556.557.558.559.\
+    560.561.562.563.564.565.566.567.568.569.570.571.572.573.574.575.576.577.578.579.\
+    580.581.582.583.584.585.586.587.588.589.590.591.592.593.594.595.596.597.598.599.\
+    600.601.602.603.604.605.606.607.608.609.610.611.612.613.614.615.616.617.618.619.\
+    620.621.622.623.624.625.626.627.628.629.630.631.632.633.634.635.636.637.638.639.\
+    640.641.642.643.644.645.646.647.648.649.650.651.652.653.654.655.656.657.658.659.\
+    660.661.662.663.664.665.666.667.668.669.670.671.672.673.674.675.676.677.678.679.\
+    680.681.682.683.684.685.686.687.688.689.690.691.692.693.694.695.696.697.698.699.\
+    700.701.702.703.704.705.706.707.708.709.710.711.712.713.714.715.716.717.718.719.\
+    720.721.722.723.724.725.726.727.728.729.730.731.732.733.734.735.736.737.738.739.\
+    740.741.742.743.744.745.746.747.748.749.750.751.752.753.754.755.756.757.758.759.\
+    760.761.762.763.764.765.766.767.768.769.770.771.772.773.774.775.776.777.778.779.\
+    780.781.782.783.784.785.786.787.788.789.790.791.792.793.794.795.796.797.798.799.\
+    800.801.802.803.804.805.806.807.808.809.810.811.812.813.814.815.816.817.818.819.\
+    820.821.822.823.824.825.826.827.828.829.830.831.832.833.834.835.836.837.838.839.\
+    840.841.842.843.844.845.846.847.848.849.850.851.852.853.854.855.856.857.858.859.\
+    860.861.862.863.864.865.866.867.868.869.870.871.872.873.874.875.876.877.878.879.\
+    880.881.882.883.884.885.886.887.888.889.890.891.892.893.894.895.896.897.898.899.\
+    900.901.902.903.904.905.906.907.908.909.910.911.912.913.914.915.916.917.918.919.\
+    920.921.922.923.924.925.926.927.928.929.930.931.932.933.934.935.936.937.938.939.\
+    940.941.942.943.944.945.946.947.948.949.950.951.952.953.954.955.956.957.958.959.\
+    960.961.962.963.964.965.966.967.968.969.970.971.972.973.974.975.976.977.978.979.\
+    980.981.982.983.984.985.986.987.988.989.990.991.992.993.994.995.996.997.998.999.    ";
+
+/// Each octet in hexadecimal.
+static PAIRS: [u8; 512] = *b"000102030405060708090a0b0c0d0e0f101112131415161718191a1b1c1d1e1f\
+    202122232425262728292a2b2c2d2e2f303132333435363738393a3b3c3d3e3f\
+    404142434445464748494a4b4c4d4e4f505152535455565758595a5b5c5d5e5f\
+    606162636465666768696a6b6c6d6e6f707172737475767778797a7b7c7d7e7f\
+    808182838485868788898a8b8c8d8e8f909192939495969798999a9b9c9d9e9f\
+    a0a1a2a3a4a5a6a7a8a9aaabacadaeafb0b1b2b3b4b5b6b7b8b9babbbcbdbebf\
+    c0c1c2c3c4c5c6c7c8c9cacbcccdcecfd0d1d2d3d4d5d6d7d8d9dadbdcdddedf\
+    e0e1e2e3e4e5e6e7e8e9eaebecedeeeff0f1f2f3f4f5f6f7f8f9fafbfcfdfeff";
+
+/// Writes an octet.
+#[inline(always)]
+pub(crate) fn write_one(places: &mut [u8], at: usize, octet: u8) -> usize
+    requires { at < length places.old }
+    ensures written { Puts places.old at places.new result (octet ∷ []) }
+    ensures end { result ≡ at + 1 }
+{
+    places[at] = octet;
+    at + 1
+}
+
+/// Writes a comma, which counts only if it is wanted.
+#[inline(always)]
+pub(crate) fn write_comma(places: &mut [u8], at: usize, comma: bool) -> usize
+    requires { at < length places.old }
+    ensures written { Puts places.old at places.new result (comma_text comma) }
+    ensures within { result ≤ at + 1 }
+{
+    places[at] = b',';
+    if comma { at + 1 } else { at }
+}
+
+/// Writes a text.
+#[inline(always)]
+pub(crate) fn write_text(places: &mut [u8], at: usize, text: &[u8]) -> usize
+    requires { at + length text.now ≤ length places.old }
+    ensures written { Puts places.old at places.new result text.now }
+    ensures end { result ≡ at + length text.now }
+{
+    let end = at + text.len();
+    places[at..end].copy_from_slice(text);
+    end
+}
+
+/// How many digits an octet has in decimal.
+#[inline(always)]
+fn digit_count(octet: u8) -> usize
+    ensures digits { result ≡ length (decimal octet) }
+    ensures within { result ≤ 3 }
+{
+    match octet {
+        100.. => 3,
+        10.. => 2,
+        _ => 1,
+    }
+}
+
+/// Writes an octet in decimal, and a dot behind its text.
+#[inline(always)]
+pub(crate) fn write_octet(places: &mut [u8], at: usize, octet: u8) -> usize
+    requires { at + 4 ≤ length places.old }
+    ensures written { Puts places.old at places.new result (decimal octet) }
+    ensures dot { Puts places.new result places.new (result + 1) (codes ".") }
+    ensures within { result ≤ at + 3 }
+{
+    let from = FOUR * usize::from(octet);
+    places[at..at + FOUR].copy_from_slice(&DOTTED[from..from + FOUR]);
+    at + digit_count(octet)
+}
+
+/// Writes a number below 1000 with three digits.
+#[inline(always)]
+fn write_three(places: &mut [u8], at: usize, number: u32) -> usize
+    requires { (number < 1000) × (at + 4 ≤ length places.old) }
+    ensures written { Puts places.old at places.new result (three_digits number) }
+    ensures end { result ≡ at + 3 }
+{
+    let from = FOUR * number as usize;
+    places[at..at + FOUR].copy_from_slice(&THREES[from..from + FOUR]);
+    at + 3
+}
+
+/// How many digits a number below 1000 has in decimal.
+#[inline(always)]
+fn small_count(number: u32) -> usize
+    requires { number < 1000 }
+    ensures digits { result ≡ length (decimal number) }
+    ensures within { result ≤ 3 }
+{
+    match number {
+        100.. => 3,
+        10.. => 2,
+        _ => 1,
+    }
+}
+
+/// Writes a number below 1000 in decimal.
+#[inline(always)]
+fn write_small(places: &mut [u8], at: usize, number: u32) -> usize
+    requires { (number < 1000) × (at + 4 ≤ length places.old) }
+    ensures written { Puts places.old at places.new result (decimal number) }
+    ensures within { result ≤ at + 3 }
+{
+    let count = small_count(number);
+    let from = FOUR * number as usize + (3 - count); // The zeros in front are left out.
+    places[at..at + FOUR].copy_from_slice(&THREES[from..from + FOUR]);
+    at + count
+}
+
+/// Writes a number below 1,000,000 in decimal.
+#[inline(always)]
+fn write_few(places: &mut [u8], at: usize, number: u32) -> usize
+    requires { (number < 1000000) × (at + 7 ≤ length places.old) }
+    ensures written { Puts places.old at places.new result (decimal number) }
+    ensures within { result ≤ at + 6 }
+{
+    if number < 1000 {
+        return write_small(places, at, number);
+    }
+    let at = write_small(places, at, number / 1000);
+    write_three(places, at, number % 1000)
+}
+
+/// Writes a number below 1,000,000,000 in decimal.
+#[inline(always)]
+fn write_more(places: &mut [u8], at: usize, number: u32) -> usize
+    requires { (number < 1000000000) × (at + 10 ≤ length places.old) }
+    ensures written { Puts places.old at places.new result (decimal number) }
+    ensures within { result ≤ at + 9 }
+{
+    if number < 1_000_000 {
+        return write_few(places, at, number);
+    }
+    let at = write_few(places, at, number / 1000);
+    write_three(places, at, number % 1000)
+}
+
+/// Writes a number in decimal.
+#[inline(always)]
+pub(crate) fn write_decimal(places: &mut [u8], at: usize, number: u32) -> usize
+    requires { at + 13 ≤ length places.old }
+    ensures written { Puts places.old at places.new result (decimal number) }
+    ensures within { result ≤ at + 12 }
+{
+    if number < 1_000_000_000 {
+        return write_more(places, at, number);
+    }
+    let at = write_more(places, at, number / 1000);
+    write_three(places, at, number % 1000)
+}
+
+/// Writes an IPv4 address in dotted decimal.
+#[inline(always)]
+pub(crate) fn write_ipv4(places: &mut [u8], at: usize, address: u32) -> usize
+    requires { at + 16 ≤ length places.old }
+    ensures written { Puts places.old at places.new result (address_text (V4 address)) }
+    ensures within { result ≤ at + 15 }
+{
+    let [first, second, third, fourth] = address.to_be_bytes();
+    let at = write_octet(places, at, first) + 1;
+    let at = write_octet(places, at, second) + 1;
+    let at = write_octet(places, at, third) + 1;
+    write_octet(places, at, fourth)
+}
+
+/// Writes an IPv4 address in dotted decimal, `/` and a count of bits.
+#[inline(always)]
+pub(crate) fn write_ipv4_prefix(places: &mut [u8], at: usize, address: u32, bits: u8) -> usize
+    requires { at + 20 ≤ length places.old }
+    ensures written { Puts places.old at places.new result
+        (address_text (V4 address) ++ (codes "/" ++ decimal bits)) }
+    ensures within { result ≤ at + 19 }
+{
+    let end = write_ipv4(places, at, address);
+    places[end] = b'/';
+    write_octet(places, end + 1, bits)
+}
+
+/// The two digits of an octet in hexadecimal.
+#[inline(always)]
+fn pair_of(octet: u8) -> (u8, u8)
+    ensures digits { result.0 ∷ result.1 ∷ [] ≡ encode_lower (octet ∷ []) }
+    ensures plain { ArePlain (result.0 ∷ result.1 ∷ []) }
+{
+    let from = 2 * usize::from(octet);
+    (PAIRS[from], PAIRS[from + 1])
+}
+
+/// Writes octets in hexadecimal.
+#[inline(always)]
+pub(crate) fn write_hex(places: &mut [u8], at: usize, octets: &[u8]) -> usize
+    requires { at + 2 * length octets.now ≤ length places.old }
+    ensures written { Puts places.old at places.new result (encode_lower octets.now) }
+    ensures end { result ≡ at + 2 * length octets.now }
+    ensures plain { ArePlain (encode_lower octets.now) }
+{
+    let mut end = at;
+    for octet in octets {
+        let (high, low) = pair_of(*octet);
+        places[end] = high;
+        places[end + 1] = low;
+        end += 2;
+    }
+    end
+}
