@@ -1,11 +1,12 @@
-use Rattle.std.proofs.Common.{[]}
+use Rattle.std.proofs.Common.{◌-◌, [], drop, take}
 use Rattle.bgp_text.proofs.Pieces.{nothing_yet}
 use Rattle.bgp_ladder.proofs.InPossible.{line_ends, line_goes_on}
+use Rattle.bgp_ladder.specs.Possible.{possible_row}
 use Rattle.bgp_ladder.proofs.possible.put_ended.Goals as goal
 
 pub returns-then-text-place-eq10-clause-puts : goal.returns-then-text-place-eq10-clause-puts
 returns-then-text-place-eq10-clause-puts g c =
-    (_, c.put_possible_row.ensures, line_ends c.args.text.now c.args.first c.args.place c.requires.place c.requires.first c.if-text-place-eq10.true)
+    (possible_row (take (c.args.place - c.args.first) (drop c.args.first c.args.text.now)), c.put_possible_row.ensures, line_ends c.args.text.now c.args.first c.args.place c.requires.place c.requires.first c.if-text-place-eq10.true)
 
 pub returns-else-text-place-eq10-clause-puts : goal.returns-else-text-place-eq10-clause-puts
 returns-else-text-place-eq10-clause-puts g c = (
