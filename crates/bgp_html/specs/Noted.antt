@@ -70,8 +70,8 @@ noted_at number noted = unwrap_or (slice_get (noted.done ++ noted.last ∷ []) n
 abbrev pub noted_of : List ℕ → Noted
 noted_of text = with_lines (lines_from [] text) nothing_noted
 
--- the lines of a text that say what could have come, or had to, where an answer stands: those behind
--- the line of the answer with this number, from 1 on, and before that of the next
+-- the lines of a text that say what could have come, or had to, where an answer stands: those
+-- behind the line of the answer with this number, from 1 on, and before that of the next
 abbrev pub possible_of : List ℕ → ℕ → List ℕ
 possible_of text number = noted_at number (noted_of text)
 

@@ -63,7 +63,7 @@ style_5 =
     codes "text-align:right}\n"
     ++ (codes "td:nth-child(6){width:11rem;border-left:2px solid var(--line)}\n"
     ++ (codes "td:nth-child(5){padding:.2rem 0 .3rem}\n"
-    ++ (codes "div{position:relative;border-bottom:1px solid;padding:0 1rem;\n"
+    ++ (codes "div{position:relative;border-bottom:1px solid;padding:0 1rem;min-width:13rem;\n"
     ++ (codes "overflow-wrap:anywhere;unicode-bidi:isolate}\n"
     ++ (codes "div::after{content:\"\";position:absolute;bottom:-5px;\n"
     ++ (codes "border:4px solid transparent}\n"
@@ -82,11 +82,12 @@ style_6 =
 abbrev pub style_7 : List ℕ
 style_7 =
     codes "h1{order:-3}body>.about{order:-2}body>.about~.about{order:1}.sum{order:-1}}\n"
-    ++ (codes "@media (max-width:45rem){td:nth-child(4),td:nth-child(6){width:1rem}}\n"
-    ++ (codes "@media print{body{max-width:none;margin:0;font-size:.8rem}\n"
+    ++ (codes "@media print,(max-width:60rem){td:nth-child(4),td:nth-child(6){width:6rem}\n"
+    ++ (codes "td:first-child{white-space:normal;min-width:6.5rem}.could div{margin:.1rem}}\n"
+    ++ (codes "@media print{:root{font-size:9pt}body{max-width:none;margin:0}\n"
     ++ (codes "h2,h3,summary{break-after:avoid}tr{break-inside:avoid}\n"
     ++ (codes "details::details-content{display:block;content-visibility:visible;\n"
-    ++ codes "block-size:auto}}\n"))))
+    ++ codes "block-size:auto}}\n")))))
 
 abbrev pub style_text : List ℕ
 style_text = style_1 ++ (style_2 ++ (style_3 ++ (style_4 ++ (style_5 ++ (style_6 ++ (style_7))))))

@@ -40,8 +40,8 @@ pub fn reports_say_the_same()
     ensures { ReportsSayTheSame }
 {}
 
-/// What is noted of an answer are the lines behind it that say what could have come, or had to, word
-/// for word and in their order, and nothing else.
+/// What is noted of an answer are the lines behind it that say what could have come, or had to,
+/// word for word and in their order, and nothing else.
 pub fn notes_are_lines()
     ensures { NotesAreLines }
 {}

@@ -99,7 +99,8 @@ impl<A: Allocator + Copy> Notes<A> {
     }
 
     /// Returns the lines that say what could have come, or had to, where an answer stands: the one
-    /// with this number, from 1 on. If memory was refused for some lines of the text, there are none.
+    /// with this number, from 1 on. If memory was refused for some lines of the text, there are
+    /// none.
     pub fn of_answer(&self, number: usize) -> Option<&[u8]>
         ensures some { IfSome result (λ octets. octets.now ≡ noted_at number (noted_by self.now)) }
         ensures all { IfSome result (λ octets. IsFalse self.now.are_missing) }

@@ -85,7 +85,7 @@ fn put_style_5<W: Sink>(lines: &mut Lines<'_, W>)
     lines.put(b"text-align:right}\n");
     lines.put(b"td:nth-child(6){width:11rem;border-left:2px solid var(--line)}\n");
     lines.put(b"td:nth-child(5){padding:.2rem 0 .3rem}\n");
-    lines.put(b"div{position:relative;border-bottom:1px solid;padding:0 1rem;\n");
+    lines.put(b"div{position:relative;border-bottom:1px solid;padding:0 1rem;min-width:13rem;\n");
     lines.put(b"overflow-wrap:anywhere;unicode-bidi:isolate}\n");
     lines.put(b"div::after{content:\"\";position:absolute;bottom:-5px;\n");
     lines.put(b"border:4px solid transparent}\n");
@@ -110,8 +110,9 @@ fn put_style_7<W: Sink>(lines: &mut Lines<'_, W>)
     ensures { Writes lines.old lines.new style_7 }
 {
     lines.put(b"h1{order:-3}body>.about{order:-2}body>.about~.about{order:1}.sum{order:-1}}\n");
-    lines.put(b"@media (max-width:45rem){td:nth-child(4),td:nth-child(6){width:1rem}}\n");
-    lines.put(b"@media print{body{max-width:none;margin:0;font-size:.8rem}\n");
+    lines.put(b"@media print,(max-width:60rem){td:nth-child(4),td:nth-child(6){width:6rem}\n");
+    lines.put(b"td:first-child{white-space:normal;min-width:6.5rem}.could div{margin:.1rem}}\n");
+    lines.put(b"@media print{:root{font-size:9pt}body{max-width:none;margin:0}\n");
     lines.put(b"h2,h3,summary{break-after:avoid}tr{break-inside:avoid}\n");
     lines.put(b"details::details-content{display:block;content-visibility:visible;\n");
     lines.put(b"block-size:auto}}\n");

@@ -20,9 +20,9 @@ use std::alloc::Allocator;
 /// The first octets of a line, by which it is known what the line says.
 const FRONT: usize = 4;
 
-/// A report on its way to a sink. It is a sink, too: it takes what `bgp check` prints, and puts each
-/// line into an element of its own, by what the line says. It notes what could have come, answer by
-/// answer. It never fails: if the sink behind it does, the lines tell of that.
+/// A report on its way to a sink. It is a sink, too: it takes what `bgp check` prints, and puts
+/// each line into an element of its own, by what the line says. It notes what could have come,
+/// answer by answer. It never fails: if the sink behind it does, the lines tell of that.
 #[derive(Drop)]
 pub struct Report<'a, A: Allocator, W: Sink> {
     lines: Lines<'a, W>,

@@ -22,8 +22,8 @@ fn put_possible_row<W: Sink>(lines: &mut Lines<'_, W>, line: &[u8])
     put_message(lines, line);
 }
 
-/// Puts the row of the line that begins at this place, if the octet at that one ends it. Returns where
-/// the line begins that goes on.
+/// Puts the row of the line that begins at this place, if the octet at that one ends it. Returns
+/// where the line begins that goes on.
 fn put_ended<W: Sink>(lines: &mut Lines<'_, W>, text: &[u8], first: usize, place: usize) -> usize
     requires first { first ≤ place }
     requires place { place < length text.now }

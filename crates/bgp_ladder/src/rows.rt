@@ -176,8 +176,8 @@ fn put_part<W: Sink>(
     }
 }
 
-/// Puts what stands for an entry behind these, by how it does, with what it shows; behind that of the
-/// no what could have come in its place.
+/// Puts what stands for an entry behind these, by how it does, with what it shows; behind that of
+/// the no what could have come in its place.
 fn put_entry<W: Sink>(
     lines: &mut Lines<'_, W>,
     ladder: &Ladder,
@@ -272,8 +272,8 @@ fn put_all<A: Allocator + Copy, W: Sink>(
 /// messages of one direction and type follow one another, and the no stands at none of them, one
 /// row sums up those between the first and the last.
 ///
-/// The lines of a text say what could have come in place of the no's record, or after all records if
-/// there is no no: each has a row there.
+/// The lines of a text say what could have come in place of the no's record, or after all records
+/// if there is no no: each has a row there.
 ///
 /// If memory is refused for a row, those before it are put, and nothing of it.
 pub fn put_rows<A: Allocator + Copy, W: Sink>(

@@ -311,8 +311,8 @@ fn put_section<A: Allocator + Copy, W: Sink>(
     put_tag(lines, Tag::SectionEnd);
 }
 
-/// Puts what stands after the text of a report: the records of each end that is judged, as a ladder,
-/// with what is noted of the text.
+/// Puts what stands after the text of a report: the records of each end that is judged, as a
+/// ladder, with what is noted of the text.
 pub(crate) fn put_ladders<A: Allocator + Copy, W: Sink>(
     alloc: A,
     lines: &mut Lines<'_, W>,
