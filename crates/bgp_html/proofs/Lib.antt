@@ -1,7 +1,9 @@
 mod Octets
+mod Plain
 mod Texts
 mod Names
 pub mod Seen
 pub mod Own
 mod Steps
 pub mod Reported
+pub mod InNotes

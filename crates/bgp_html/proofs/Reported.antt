@@ -13,11 +13,12 @@ use Rattle.bgp_html.specs.Pieces.{Piece, html_of, piece_html, piece_lines, print
 use Rattle.bgp_html.specs.Printed.{begun_html, kind_end, kind_start, printed_html}
 use Rattle.bgp_html.specs.Report.{ReportsSayTheSame, head_pieces, line_pieces, lines_from, lines_html, report_html, report_pieces}
 use Rattle.bgp_html.specs.Taking.{Front, Place, Puts, Within, end_html, html_at, html_from, place_after, place_behind, place_of}
+use Rattle.bgp_html.specs.declared.notes.Notes.{Notes}
 use Rattle.bgp_html.specs.declared.printed.Kind.{Kind}
 
 -- ---- what a line says is known by four octets
 
-same_kind : (line rest : List ℕ) → 4 ≤ length line → kind_of (line ++ rest) ≡ kind_of line
+pub same_kind : (line rest : List ℕ) → 4 ≤ length line → kind_of (line ++ rest) ≡ kind_of line
 same_kind [] rest some = absurd (omega (arith, some))
 same_kind (a ∷ []) rest some = absurd (omega (arith, some))
 same_kind (a ∷ b ∷ []) rest some = absurd (omega (arith, some))
@@ -26,7 +27,7 @@ same_kind (a ∷ b ∷ c ∷ d ∷ line) rest some = refl
 
 -- ---- a line
 
-one_longer : (line : List ℕ) (octet : ℕ) → length (line ++ octet ∷ []) ≡ length line + 1
+pub one_longer : (line : List ℕ) (octet : ℕ) → length (line ++ octet ∷ []) ≡ length line + 1
 one_longer [] octet = refl
 one_longer (x ∷ line) octet = let rest = one_longer line octet in omega (arith, rest)
 
@@ -123,9 +124,10 @@ all_lines (octet ∷ octets) =
     )
 
 -- what is written of a text, from its first octet to its end
-pub put_lines : {W : Type 0} {sink : sinks.Ghosts W} → Joins sink → (from to after : Lines W sink) (kind kind' : Option Kind) (front front' : List ℕ) (text : List ℕ)
-    → kind ≡ None → front ≡ [] → Puts from to kind kind' front front' text → Writes to after (end_html (place_of kind' front')) → Writes from after (lines_html text)
-put_lines law from to after kind kind' front front' text none empty puts ends =
+pub put_lines : {W : Type 0} {sink : sinks.Ghosts W} {Y : Type 0} → Joins sink → (from to after : Lines W sink) (kind kind' : Option Kind) (front front' : List ℕ)
+    (notes notes' : Notes Y) (text : List ℕ) → kind ≡ None → front ≡ [] → Puts from to kind kind' front front' notes notes' text
+    → Writes to after (end_html (place_of kind' front')) → Writes from after (lines_html text)
+put_lines law from to after kind kind' front front' notes notes' text none empty puts ends =
     let first : place_of kind front ≡ Front [] = ap₂ (λ (k : Option Kind) (f : List ℕ). place_of k f) none empty in
     let start : Writes from to (html_from (Front []) text) =
     subst (λ (p : Place). Writes from to (html_from p text)) first puts.writes in

@@ -7,9 +7,12 @@ use Rattle.bgp_html.specs.declared.printed.Kind.TheVariants as kinds
 abbrev pub begins : List ℕ → List ℕ → Bool
 begins line word = starts_with ◌==◌ line word
 
--- what is said beside an answer is indented
+-- what is said beside an answer is indented: what could have come, or had to, stands in lines of
+-- its own (`  could come here: ` and others)
 abbrev pub kind_of : List ℕ → Kind
 kind_of line =
+    if begins line (codes "  co") || begins line (codes "  ha") then kinds.Possible else
+    if begins line (codes "  or") then kinds.Possible else
     if begins line (codes "  ") then kinds.Beside else
     if begins line (codes "conn") || begins line (codes "sess") then kinds.Connection else
     if begins line (codes "yes") then kinds.Yes else

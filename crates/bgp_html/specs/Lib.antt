@@ -8,4 +8,6 @@ pub mod Tags
 pub mod Pieces
 pub mod Reading
 pub mod Report
+pub mod Noted
+pub mod Notes
 pub mod Taking

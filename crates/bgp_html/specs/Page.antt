@@ -63,7 +63,7 @@ style_5 =
     codes "text-align:right}\n"
     ++ (codes "td:nth-child(6){width:11rem;border-left:2px solid var(--line)}\n"
     ++ (codes "td:nth-child(5){padding:.2rem 0 .3rem}\n"
-    ++ (codes "div{position:relative;border-bottom:1px solid;padding:0 1rem;\n"
+    ++ (codes "div{position:relative;border-bottom:1px solid;padding:0 1rem;min-width:13rem;\n"
     ++ (codes "overflow-wrap:anywhere;unicode-bidi:isolate}\n"
     ++ (codes "div::after{content:\"\";position:absolute;bottom:-5px;\n"
     ++ (codes "border:4px solid transparent}\n"
@@ -75,19 +75,19 @@ style_6 =
     ++ (codes "tr.no{background:var(--mark);font-weight:700}\n"
     ++ (codes "tr.no td:first-child::before{content:\"\\2717\\a0\"}\n"
     ++ (codes ".late{opacity:.55}\n"
-    ++ (codes ".could div{border-bottom-style:dashed}\n"
-    ++ (codes ".could{font-style:italic}\n"
     ++ (codes ".run{color:var(--pale);font-style:italic}.run div{border-style:none}\n"
-    ++ codes "@media screen{body{display:flex;flex-direction:column}\n"))))))
+    ++ (codes ".could{color:var(--ink)}.could div{border:1px dashed;margin:.1rem 2rem}\n"
+    ++ codes "@media screen{body{display:flex;flex-direction:column}\n")))))
 
 abbrev pub style_7 : List ℕ
 style_7 =
-    codes "h1{order:-3}body>.about{order:-2}.sum{order:-1}}\n"
-    ++ (codes "@media (max-width:45rem){td:nth-child(4),td:nth-child(6){width:1rem}}\n"
-    ++ (codes "@media print{body{max-width:none;margin:0;font-size:.8rem}\n"
+    codes "h1{order:-3}body>.about{order:-2}body>.about~.about{order:1}.sum{order:-1}}\n"
+    ++ (codes "@media print,(max-width:60rem){td:nth-child(4),td:nth-child(6){width:6rem}\n"
+    ++ (codes "td:first-child{white-space:normal;min-width:6.5rem}.could div{margin:.1rem}}\n"
+    ++ (codes "@media print{:root{font-size:9pt}body{max-width:none;margin:0}\n"
     ++ (codes "h2,h3,summary{break-after:avoid}tr{break-inside:avoid}\n"
     ++ (codes "details::details-content{display:block;content-visibility:visible;\n"
-    ++ codes "block-size:auto}}\n"))))
+    ++ codes "block-size:auto}}\n")))))
 
 abbrev pub style_text : List ℕ
 style_text = style_1 ++ (style_2 ++ (style_3 ++ (style_4 ++ (style_5 ++ (style_6 ++ (style_7))))))
@@ -109,13 +109,17 @@ about_text =
 -- and their words
 abbrev pub words_text : List ℕ
 words_text =
-    codes "An end is one of both routers of a connection. A record is a message that it "
-    ++ (codes "sent or received, or a change of its state. refused: it cannot be read, and is "
-    ++ (codes "not judged. open at the end of the file: no packet ended the connection. "
-    ++ (codes "A single - stands for nothing: no prefix, or no attribute. origin 0, 1 and 2 "
-    ++ (codes "are IGP, EGP and INCOMPLETE. Within so many seconds a message that came is "
-    ++ (codes "handled: 10, unless --within says another number. The standard sets no such "
-    ++ codes "time; the 10 seconds are a choice of bgp.")))))
+    codes "An end is one of both routers of a connection. A record is a message that "
+    ++ (codes "it sent or received, or a change of its state. could come here: the "
+    ++ (codes "standard allows this in place of the record. or: it allows this, too, and "
+    ++ (codes "nothing but these. had to come here: the same, but no message can be "
+    ++ (codes "received before it. could come next, had to come next: the same after the "
+    ++ (codes "last record. refused: it cannot be read, and is not judged. open at the end "
+    ++ (codes "of the file: no packet ended the connection. A single - stands for nothing: "
+    ++ (codes "no prefix, or no attribute. origin 0, 1 and 2 are IGP, EGP and INCOMPLETE. "
+    ++ (codes "Within so many seconds a message that came is handled: 10, unless --within "
+    ++ (codes "says another number. The standard sets no such time; the 10 seconds are a "
+    ++ codes "choice of bgp.")))))))))
 
 abbrev pub after_name : List ℕ
 after_name =
@@ -128,13 +132,16 @@ abbrev pub ladders_text : List ℕ
 ladders_text =
     codes "The records of each end that is judged, a row each, in the order that bgp "
     ++ (codes "import makes: one in which the router can have handled them. Seconds are "
-    ++ (codes "counted from the first packet of the connection. came before: the packet came "
-    ++ (codes "before that of a row above it, and was handled after it. No packet shows a "
-    ++ (codes "change of state: it stands at the packet of the message beside it, or of the "
-    ++ (codes "end of the connection. The row of a no has a cross, and those below it are "
-    ++ (codes "pale: they are not judged. If the lines above name an earlier packet in the "
-    ++ (codes "order of bgp import, that one is not allowed in this order alone; the message "
-    ++ codes "of the row with the cross is not allowed in any.")))))))
+    ++ (codes "counted from the first packet of the connection; a row without a time is of "
+    ++ (codes "the same packet as the row above it. came before: the packet came before "
+    ++ (codes "that of a row above it, and was handled after it. No packet shows a change "
+    ++ (codes "of state: it stands at the packet of the message beside it, or of the end "
+    ++ (codes "of the connection. The row of a no has a cross. The dashed rows below it "
+    ++ (codes "say what could have come in its place, or had to: they are lines of the "
+    ++ (codes "answer above. At the end of a ladder they say what is due next. The rows "
+    ++ (codes "after those of a no are pale: they are not judged. If the answer names an "
+    ++ (codes "earlier packet in the order of bgp import, that one is not allowed in this "
+    ++ codes "order alone; the message of the row with the cross is not allowed in any."))))))))))
 
 abbrev pub ladders_start : List ℕ
 ladders_start =

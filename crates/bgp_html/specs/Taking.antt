@@ -1,6 +1,7 @@
 -- How a report is written while its text comes, octet by octet.
-use Rattle.std.specs.Prelude.{◌≡◌, ◌==◌, ◌++◌, ℕ, List, [], ◌∷◌, Option, None, Some, length, refl}
-use Rattle.std.specs.Prelude.{if◌then◌else◌}
+use Rattle.std.specs.Prelude.{◌≡◌, ◌==◌, ◌+◌, ◌++◌, ℕ, false, List, [], ◌∷◌, Option, None, Some}
+use Rattle.std.specs.Prelude.{if◌then◌else◌, length, refl}
+use Rattle.std.specs.List.{list_any}
 use Rattle.std.proofs.Common.{◌∙◌, ap, append_assoc, subst, sym}
 use Rattle.mrt.specs.declared.sink.Sink as sinks
 use Rattle.bgp_text.specs.declared.lines.Lines.{Lines}
@@ -8,7 +9,10 @@ use Rattle.bgp_text.specs.Lines.{Writes}
 use Rattle.bgp_text.proofs.Pieces.{nothing_yet, and_then}
 use Rattle.bgp_html.specs.Escaped.{escaped}
 use Rattle.bgp_html.specs.Kinds.{kind_of}
+use Rattle.bgp_html.specs.Noted.{Noted, with_line, with_rest}
+use Rattle.bgp_html.specs.Notes.{IsNotedBy, noted_by}
 use Rattle.bgp_html.specs.Printed.{begun_html, kind_end, printed_html}
+use Rattle.bgp_html.specs.declared.notes.Notes.{Notes}
 use Rattle.bgp_html.specs.declared.printed.Kind.{Kind}
 
 -- at the front of a line, of which these octets came, and nothing is written; or within a line that
@@ -59,20 +63,56 @@ abbrev pub end_html : Place → List ℕ
 end_html (Front front) = printed_html (kind_of front) front
 end_html (Within kind) = kind_end kind
 
--- these octets came, and were put into the lines
-pub record Puts {W : Type 0} {sink : sinks.Ghosts W} (old new : Lines W sink)
-    (kind kind' : Option Kind) (front front' : List ℕ) (octets : List ℕ) : Type 0 where
+-- what is noted when an octet comes: a line counts as soon as it is known what it says
+abbrev pub front_notes : List ℕ → ℕ → Noted → Noted
+front_notes front octet noted =
+    if octet == 10 then with_line (kind_of (front ++ octet ∷ [])) (front ++ octet ∷ []) noted else
+    if length front == 3 then with_line (kind_of (front ++ octet ∷ [])) (front ++ octet ∷ []) noted
+    else noted
+
+abbrev pub notes_at : Place → ℕ → Noted → Noted
+notes_at (Front front) octet noted = front_notes front octet noted
+notes_at (Within kind) octet noted = with_rest kind (octet ∷ []) noted
+
+abbrev pub notes_from : Place → List ℕ → Noted → Noted
+notes_from place [] noted = noted
+notes_from place (octet ∷ octets) noted =
+    notes_from (place_behind place octet) octets (notes_at place octet noted)
+
+-- and at the end of the text
+abbrev pub end_notes : Place → Noted → Noted
+end_notes (Front front) noted = with_line (kind_of front) front noted
+end_notes (Within kind) noted = noted
+
+-- ---- where a line ends
+
+-- where the first line feed stands, or how many octets there are
+abbrev pub first_end : List ℕ → ℕ
+first_end [] = 0
+first_end (octet ∷ octets) = if octet == 10 then 0 else first_end octets + 1
+
+abbrev pub HasNoEnd : List ℕ → Type 0
+HasNoEnd octets = list_any (λ octet. octet == 10) octets ≡ false
+
+-- ---- what came
+
+-- these octets came, and were put into the lines and noted
+pub record Puts {W : Type 0} {sink : sinks.Ghosts W} {Y : Type 0} (old new : Lines W sink)
+    (kind kind' : Option Kind) (front front' : List ℕ) (notes notes' : Notes Y) (octets : List ℕ)
+    : Type 0 where
   pub place : place_of kind' front' ≡ place_after (place_of kind front) octets
   pub writes : Writes old new (html_from (place_of kind front) octets)
+  pub noted : IsNotedBy notes notes' (notes_from (place_of kind front) octets)
 
 -- ---- nothing, and one behind another
 
-pub puts_nothing : {W : Type 0} {sink : sinks.Ghosts W} → ((a : W) → sink.takes a a [])
-    → (a : Lines W sink) (kind : Option Kind) (front : List ℕ)
-    → Puts a a kind kind front front []
-puts_nothing {W} {sink} nothing a kind front = record {
+pub puts_nothing : {W : Type 0} {sink : sinks.Ghosts W} {Y : Type 0}
+    → ((a : W) → sink.takes a a []) → (a : Lines W sink) (kind : Option Kind) (front : List ℕ)
+    (notes : Notes Y) → Puts a a kind kind front front notes notes []
+puts_nothing {W} {sink} nothing a kind front notes = record {
   place = refl;
   writes = nothing_yet sink nothing a.outlet a.held.items;
+  noted = λ all. (all, refl);
 }
 
 html_in_turn : (place : Place) (xs ys : List ℕ)
@@ -88,15 +128,23 @@ place_in_turn : (place : Place) (xs ys : List ℕ)
 place_in_turn place [] ys = refl
 place_in_turn place (x ∷ xs) ys = place_in_turn (place_behind place x) xs ys
 
-pub puts_joined : {W : Type 0} {sink : sinks.Ghosts W}
+notes_in_turn : (place : Place) (xs ys : List ℕ) (noted : Noted)
+    → notes_from (place_after place xs) ys (notes_from place xs noted)
+    ≡ notes_from place (xs ++ ys) noted
+notes_in_turn place [] ys noted = refl
+notes_in_turn place (x ∷ xs) ys noted =
+    notes_in_turn (place_behind place x) xs ys (notes_at place x noted)
+
+pub puts_joined : {W : Type 0} {sink : sinks.Ghosts W} {Y : Type 0}
     → ((a b c : W) (xs ys : List ℕ) → sink.takes a b xs → sink.takes b c ys
     → sink.takes a c (xs ++ ys))
     → (a b c : Lines W sink) (kind kind' kind'' : Option Kind)
-    (front front' front'' : List ℕ) (xs ys : List ℕ)
-    → Puts a b kind kind' front front' xs → Puts b c kind' kind'' front' front'' ys
-    → Puts a c kind kind'' front front'' (xs ++ ys)
-puts_joined {W} {sink} joined a b c kind kind' kind'' front front' front'' xs ys first second =
-    record {
+    (front front' front'' : List ℕ) (notes notes' notes'' : Notes Y) (xs ys : List ℕ)
+    → Puts a b kind kind' front front' notes notes' xs
+    → Puts b c kind' kind'' front' front'' notes' notes'' ys
+    → Puts a c kind kind'' front front'' notes notes'' (xs ++ ys)
+puts_joined {W} {sink} joined a b c kind kind' kind'' front front' front'' notes notes' notes''
+    xs ys first second = record {
       place = second.place ∙ ap (λ (p : Place). place_after p ys) first.place
           ∙ place_in_turn (place_of kind front) xs ys;
       writes = subst (λ (text : List ℕ). Writes a c text)
@@ -104,4 +152,11 @@ puts_joined {W} {sink} joined a b c kind kind' kind'' front front' front'' xs ys
           (subst (λ (p : Place). Writes a c
           (html_from (place_of kind front) xs ++ html_from p ys)) first.place
           (and_then (record { joined = joined }) first.writes second.writes));
+      noted = λ all. let later = second.noted all in let before = first.noted later.0 in (
+        before.0,
+        later.1 ∙ ap (λ (n : Noted). notes_from (place_of kind' front') ys n) before.1
+            ∙ ap (λ (p : Place). notes_from p ys (notes_from (place_of kind front) xs
+            (noted_by notes))) first.place
+            ∙ notes_in_turn (place_of kind front) xs ys (noted_by notes),
+      );
     }

@@ -1,5 +1,6 @@
 //! Text as HTML has it.
 
+ghost use Rattle.std.specs.Prelude.{◌≡◌, ◌∷◌, [], IsTrue};
 ghost use Rattle.bgp_text.specs.Lines.{Writes};
 ghost use Rattle.bgp_html.specs.Escaped.{escape_octet, escaped};
 
@@ -21,6 +22,42 @@ fn put_octet<W: Sink>(lines: &mut Lines<'_, W>, octet: u8)
     }
 }
 
+/// Puts a text octet by octet.
+fn put_each<W: Sink>(lines: &mut Lines<'_, W>, text: &[u8])
+    ensures { Writes lines.old lines.new (escaped text.now) }
+{
+    for octet in text {
+        put_octet(lines, *octet);
+    }
+}
+
+/// Checks whether HTML has an octet as it is.
+#[tactic(auto, unfolding(crate::specs::Escaped::escape_octet))]
+fn is_plain(octet: u8) -> bool
+    ensures { IsTrue result → escape_octet octet ≡ octet ∷ [] }
+{
+    match octet {
+        b'&' => false,
+        b'<' => false,
+        b'>' => false,
+        b'"' => false,
+        b'\'' => false,
+        _ => true,
+    }
+}
+
+/// Checks whether HTML has a text as it is.
+fn are_plain(text: &[u8]) -> bool
+    ensures { IsTrue result → escaped text.now ≡ text.now }
+{
+    for octet in text {
+        if !is_plain(*octet) {
+            return false;
+        }
+    }
+    true
+}
+
 /// Puts a text into HTML, between tags or in an attribute: `&`, `<`, `>` and both quotation marks
 /// as character references (the HTML standard, 13.1.4), every other octet as it is.
 ///
@@ -28,7 +65,10 @@ fn put_octet<W: Sink>(lines: &mut Lines<'_, W>, octet: u8)
 pub fn put_escaped<W: Sink>(lines: &mut Lines<'_, W>, text: &[u8])
     ensures { Writes lines.old lines.new (escaped text.now) }
 {
-    for octet in text {
-        put_octet(lines, *octet);
+    // Most texts stand there as they are, and are put at once.
+    if are_plain(text) {
+        lines.put(text);
+    } else {
+        put_each(lines, text);
     }
 }

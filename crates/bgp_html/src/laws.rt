@@ -1,6 +1,7 @@
 //! Laws of text in HTML, each on a function that does nothing.
 
 ghost use Rattle.bgp_html.specs.Escaped.{EscapedTextIsNoMarkup, EscapedTextIsThatTextAlone};
+ghost use Rattle.bgp_html.specs.Noted.{NotesAreLines};
 ghost use Rattle.bgp_html.specs.Reading.{LinesArePrinted, WordsAreNoTags, WordsAreSeen};
 ghost use Rattle.bgp_html.specs.Report.{ReportsSayTheSame};
 
@@ -37,4 +38,10 @@ pub fn words_are_no_tags()
 /// called samp gets the text, and nothing else, whatever the file is called.
 pub fn reports_say_the_same()
     ensures { ReportsSayTheSame }
+{}
+
+/// What is noted of an answer are the lines behind it that say what could have come, or had to,
+/// word for word and in their order, and nothing else.
+pub fn notes_are_lines()
+    ensures { NotesAreLines }
 {}

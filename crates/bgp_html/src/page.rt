@@ -85,7 +85,7 @@ fn put_style_5<W: Sink>(lines: &mut Lines<'_, W>)
     lines.put(b"text-align:right}\n");
     lines.put(b"td:nth-child(6){width:11rem;border-left:2px solid var(--line)}\n");
     lines.put(b"td:nth-child(5){padding:.2rem 0 .3rem}\n");
-    lines.put(b"div{position:relative;border-bottom:1px solid;padding:0 1rem;\n");
+    lines.put(b"div{position:relative;border-bottom:1px solid;padding:0 1rem;min-width:13rem;\n");
     lines.put(b"overflow-wrap:anywhere;unicode-bidi:isolate}\n");
     lines.put(b"div::after{content:\"\";position:absolute;bottom:-5px;\n");
     lines.put(b"border:4px solid transparent}\n");
@@ -100,9 +100,8 @@ fn put_style_6<W: Sink>(lines: &mut Lines<'_, W>)
     lines.put(b"tr.no{background:var(--mark);font-weight:700}\n");
     lines.put(b"tr.no td:first-child::before{content:\"\\2717\\a0\"}\n");
     lines.put(b".late{opacity:.55}\n");
-    lines.put(b".could div{border-bottom-style:dashed}\n");
-    lines.put(b".could{font-style:italic}\n");
     lines.put(b".run{color:var(--pale);font-style:italic}.run div{border-style:none}\n");
+    lines.put(b".could{color:var(--ink)}.could div{border:1px dashed;margin:.1rem 2rem}\n");
     lines.put(b"@media screen{body{display:flex;flex-direction:column}\n");
 }
 
@@ -110,9 +109,10 @@ fn put_style_6<W: Sink>(lines: &mut Lines<'_, W>)
 fn put_style_7<W: Sink>(lines: &mut Lines<'_, W>)
     ensures { Writes lines.old lines.new style_7 }
 {
-    lines.put(b"h1{order:-3}body>.about{order:-2}.sum{order:-1}}\n");
-    lines.put(b"@media (max-width:45rem){td:nth-child(4),td:nth-child(6){width:1rem}}\n");
-    lines.put(b"@media print{body{max-width:none;margin:0;font-size:.8rem}\n");
+    lines.put(b"h1{order:-3}body>.about{order:-2}body>.about~.about{order:1}.sum{order:-1}}\n");
+    lines.put(b"@media print,(max-width:60rem){td:nth-child(4),td:nth-child(6){width:6rem}\n");
+    lines.put(b"td:first-child{white-space:normal;min-width:6.5rem}.could div{margin:.1rem}}\n");
+    lines.put(b"@media print{:root{font-size:9pt}body{max-width:none;margin:0}\n");
     lines.put(b"h2,h3,summary{break-after:avoid}tr{break-inside:avoid}\n");
     lines.put(b"details::details-content{display:block;content-visibility:visible;\n");
     lines.put(b"block-size:auto}}\n");
@@ -156,13 +156,17 @@ fn put_about<W: Sink>(lines: &mut Lines<'_, W>)
 fn put_words<W: Sink>(lines: &mut Lines<'_, W>)
     ensures { Writes lines.old lines.new words_text }
 {
-    lines.put(b"An end is one of both routers of a connection. A record is a message that it ");
-    lines.put(b"sent or received, or a change of its state. refused: it cannot be read, and is ");
-    lines.put(b"not judged. open at the end of the file: no packet ended the connection. ");
-    lines.put(b"A single - stands for nothing: no prefix, or no attribute. origin 0, 1 and 2 ");
-    lines.put(b"are IGP, EGP and INCOMPLETE. Within so many seconds a message that came is ");
-    lines.put(b"handled: 10, unless --within says another number. The standard sets no such ");
-    lines.put(b"time; the 10 seconds are a choice of bgp.");
+    lines.put(b"An end is one of both routers of a connection. A record is a message that ");
+    lines.put(b"it sent or received, or a change of its state. could come here: the ");
+    lines.put(b"standard allows this in place of the record. or: it allows this, too, and ");
+    lines.put(b"nothing but these. had to come here: the same, but no message can be ");
+    lines.put(b"received before it. could come next, had to come next: the same after the ");
+    lines.put(b"last record. refused: it cannot be read, and is not judged. open at the end ");
+    lines.put(b"of the file: no packet ended the connection. A single - stands for nothing: ");
+    lines.put(b"no prefix, or no attribute. origin 0, 1 and 2 are IGP, EGP and INCOMPLETE. ");
+    lines.put(b"Within so many seconds a message that came is handled: 10, unless --within ");
+    lines.put(b"says another number. The standard sets no such time; the 10 seconds are a ");
+    lines.put(b"choice of bgp.");
 }
 
 /// Puts what stands between the heading and the first connection.
@@ -182,13 +186,16 @@ fn put_about_ladders<W: Sink>(lines: &mut Lines<'_, W>)
 {
     lines.put(b"The records of each end that is judged, a row each, in the order that bgp ");
     lines.put(b"import makes: one in which the router can have handled them. Seconds are ");
-    lines.put(b"counted from the first packet of the connection. came before: the packet came ");
-    lines.put(b"before that of a row above it, and was handled after it. No packet shows a ");
-    lines.put(b"change of state: it stands at the packet of the message beside it, or of the ");
-    lines.put(b"end of the connection. The row of a no has a cross, and those below it are ");
-    lines.put(b"pale: they are not judged. If the lines above name an earlier packet in the ");
-    lines.put(b"order of bgp import, that one is not allowed in this order alone; the message ");
-    lines.put(b"of the row with the cross is not allowed in any.");
+    lines.put(b"counted from the first packet of the connection; a row without a time is of ");
+    lines.put(b"the same packet as the row above it. came before: the packet came before ");
+    lines.put(b"that of a row above it, and was handled after it. No packet shows a change ");
+    lines.put(b"of state: it stands at the packet of the message beside it, or of the end ");
+    lines.put(b"of the connection. The row of a no has a cross. The dashed rows below it ");
+    lines.put(b"say what could have come in its place, or had to: they are lines of the ");
+    lines.put(b"answer above. At the end of a ladder they say what is due next. The rows ");
+    lines.put(b"after those of a no are pale: they are not judged. If the answer names an ");
+    lines.put(b"earlier packet in the order of bgp import, that one is not allowed in this ");
+    lines.put(b"order alone; the message of the row with the cross is not allowed in any.");
 }
 
 /// Puts the start of what stands after the text: a heading, and what the rows say.

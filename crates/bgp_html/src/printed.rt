@@ -22,7 +22,9 @@ pub enum Kind {
     Unfinished,
     /// That an end isn't judged.
     NotJudged,
-    /// What is said beside an answer.
+    /// What could have come, or had to, in place of a record or after the last one.
+    Possible,
+    /// What else is said beside an answer.
     Beside,
     /// What is said of the whole file.
     Whole,
@@ -40,7 +42,7 @@ fn put_start<W: Sink>(lines: &mut Lines<'_, W>, kind: Kind)
         Kind::No => lines.put(b"<h3><samp class=\"no\">"),
         Kind::Unfinished => lines.put(b"<h3><samp class=\"due\">"),
         Kind::NotJudged => lines.put(b"<h3><samp class=\"not\">"),
-        Kind::Beside => lines.put(b"<pre><samp>"),
+        Kind::Possible | Kind::Beside => lines.put(b"<pre><samp>"),
         Kind::Whole => lines.put(b"<p><samp>"),
         Kind::Totals => lines.put(b"<p class=\"sum\"><samp>"),
     }
@@ -55,7 +57,7 @@ pub(crate) fn put_end<W: Sink>(lines: &mut Lines<'_, W>, kind: Kind)
         Kind::Yes | Kind::No | Kind::Unfinished | Kind::NotJudged => {
             lines.put(b"</samp></h3>\n");
         }
-        Kind::Beside => lines.put(b"</samp></pre>\n"),
+        Kind::Possible | Kind::Beside => lines.put(b"</samp></pre>\n"),
         Kind::Whole | Kind::Totals => lines.put(b"</samp></p>\n"),
     }
 }
@@ -64,7 +66,11 @@ pub(crate) fn put_end<W: Sink>(lines: &mut Lines<'_, W>, kind: Kind)
 pub(crate) fn kind_of(front: &[u8]) -> Kind
     ensures { result ≡ kind_of front.now }
 {
-    if front.starts_with(b"  ") {
+    if front.starts_with(b"  co") || front.starts_with(b"  ha") {
+        Kind::Possible
+    } else if front.starts_with(b"  or") {
+        Kind::Possible
+    } else if front.starts_with(b"  ") {
         Kind::Beside
     } else if front.starts_with(b"conn") || front.starts_with(b"sess") {
         Kind::Connection

@@ -3,4 +3,5 @@ mod InRuns
 mod Plain
 mod Words
 mod OneRow
+mod InPossible
 mod NotPrinted

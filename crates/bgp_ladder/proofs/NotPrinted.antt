@@ -1,5 +1,5 @@
 -- No row is a line that is printed as text.
-use Rattle.std.proofs.Common.{◌≡◌, ◌∙◌, ◌++◌, ℕ, List, [], ◌∷◌, Option, None, refl, ap}
+use Rattle.std.proofs.Common.{◌≡◌, ◌∙◌, ◌++◌, ◌==◌, ℕ, Bool, true, false, List, [], ◌∷◌, Option, None, Some, if◌then◌else◌, length, refl, ap}
 use Rattle.std.proofs.lemmas.Grind.{flat_map-append}
 use Rattle.bgp_html.specs.Pieces.{Piece, piece_lines, printed_of}
 use Rattle.bgp_html.specs.declared.tag.Column.{Column}
@@ -8,6 +8,8 @@ use Rattle.bgp_recording.specs.declared.entry.Entry.{Entry}
 use Rattle.bgp_values.specs.declared.opens.Opens.{Opens}
 use Rattle.mrt.specs.Reader.{shown_of}
 use Rattle.bgp_ladder.specs.Ladder.{AreRowsBetween, IsOwnRow, IsRowOf, RowsAreNotPrinted, count_pieces, deed_pieces, front_pieces, kind_pieces, number_words}
+use Rattle.bgp_ladder.specs.Possible.{behind_pieces, last_pieces, possible_row, possible_rows, rows_from}
+use Rattle.bgp_ladder.specs.Runs.{is_marked}
 use Rattle.bgp_ladder.specs.declared.rows.Ladder.{Ladder}
 use Rattle.bgp_ladder.specs.declared.runs.Part.{Part}
 use Rattle.bgp_ladder.specs.declared.runs.Part.TheVariants as parts
@@ -40,11 +42,41 @@ module _ (ladder : Ladder) (opens : Opens) (greatest : ℕ) (previous : Option E
       ∙ both (count_pieces count (shown_of entry.record)) (number_words _ _) (of_kind (shown_of entry.record)) refl
   one_row parts.Summed row is = ap (λ (ps : List Piece). printed_of ps) is
 
-rows : (ladder : Ladder) (earlier entries later : List Entry) (pieces : List Piece) → AreRowsBetween ladder earlier entries later pieces → printed_of pieces ≡ []
-rows ladder earlier [] later pieces is = ap (λ (ps : List Piece). printed_of ps) is
-rows ladder earlier (entry ∷ entries) later pieces (row, rest, (opens, known, its), more, whole) =
+-- ---- what could have come
+
+of_possible_by : (last : Bool) (line : List ℕ) (octet : ℕ) (octets : List ℕ) → ((other : List ℕ) → printed_of (rows_from other octets) ≡ [])
+    → printed_of (if last then possible_row line ++ rows_from [] octets else rows_from (line ++ octet ∷ []) octets) ≡ []
+of_possible_by true line octet octets rest = both (possible_row line) (rows_from [] octets) refl (rest [])
+of_possible_by false line octet octets rest = rest (line ++ octet ∷ [])
+
+of_possible : (octets line : List ℕ) → printed_of (rows_from line octets) ≡ []
+of_possible [] line = refl
+of_possible (octet ∷ octets) line = of_possible_by (octet == 10) line octet octets (of_possible octets)
+
+of_behind_by : (marked : Bool) (possible : List ℕ) → printed_of (if marked then possible_rows possible else []) ≡ []
+of_behind_by true possible = of_possible possible []
+of_behind_by false possible = refl
+
+of_last : (impossible : Option ℕ) (possible : List ℕ) → printed_of (last_pieces impossible possible) ≡ []
+of_last None possible = of_possible possible []
+of_last (Some place) possible = refl
+
+-- ---- all rows
+
+rows : (ladder : Ladder) (possible : List ℕ) (earlier entries later : List Entry) (pieces : List Piece) → AreRowsBetween ladder possible earlier entries later pieces
+    → printed_of pieces ≡ []
+rows ladder possible earlier [] later pieces is = ap (λ (ps : List Piece). printed_of ps) is
+rows ladder possible earlier (entry ∷ entries) later pieces (row, rest, (opens, known, (own, its, with)), more, whole) =
     ap (λ (ps : List Piece). printed_of ps) whole
-    ∙ both row rest (one_row ladder opens _ _ _ entry _ row its) (rows ladder (earlier ++ entry ∷ []) entries later rest more)
+    ∙ both row rest
+    (ap (λ (ps : List Piece). printed_of ps) with
+    ∙ both own (behind_pieces ladder.impossible possible (length earlier)) (one_row ladder opens _ _ _ entry _ own its)
+    (of_behind_by (is_marked ladder.impossible (length earlier)) possible))
+    (rows ladder possible (earlier ++ entry ∷ []) entries later rest more)
 
 pub not_printed : RowsAreNotPrinted
-not_printed ladder entries later pieces are = rows ladder [] entries later pieces are
+not_printed ladder possible entries later pieces = (
+  λ are. rows ladder possible [] entries later pieces are,
+  λ all. ap (λ (ps : List Piece). printed_of ps) all.2
+      ∙ both all.0 (last_pieces ladder.impossible possible) (rows ladder possible [] entries [] all.0 all.1) (of_last ladder.impossible possible),
+)

@@ -15,7 +15,7 @@ use Rattle.bgp_lines.specs.Form.{Before, before_behind, nothing_before}
 use Rattle.bgp_recording.specs.declared.entry.Entry.{Entry}
 use Rattle.bgp_values.specs.Opens.{AreOpens}
 use Rattle.bgp_values.specs.declared.opens.Opens.{Opens}
-use Rattle.bgp_ladder.specs.Ladder.{AreRowsBefore, AreRowsBetween, IsRow, IsRowOf, PutsRowsBefore, before_in, greatest_in, part_in}
+use Rattle.bgp_ladder.specs.Ladder.{AreRowsBefore, AreRowsBetween, IsEntryOf, IsRow, PutsRowsBefore, before_in, greatest_in, part_in}
 use Rattle.bgp_ladder.specs.Runs.{IsRun, part_of, run_before, run_behind}
 use Rattle.bgp_ladder.specs.declared.rows.Ladder.{Ladder}
 use Rattle.bgp_ladder.specs.declared.runs.Part.{Part}
@@ -38,21 +38,21 @@ greatest_of : (xs : List Entry) (e : Entry) (n : ℕ) → greatest_in n (xs ++ e
 greatest_of [] e n = refl
 greatest_of (y ∷ ys) e n = greatest_by (nat_lt n y.packet) y.packet n ys e (greatest_of ys e)
 
-module _ (ladder : Ladder) where
-  one_row : (earlier xs later : List Entry) (x : Entry) (pieces row : List Piece) → AreRowsBetween ladder earlier xs (x ∷ later) pieces
-      → IsRow ladder (earlier ++ xs) x later row → AreRowsBetween ladder earlier (xs ++ x ∷ []) later (pieces ++ row)
+module _ (ladder : Ladder) (possible : List ℕ) where
+  one_row : (earlier xs later : List Entry) (x : Entry) (pieces row : List Piece) → AreRowsBetween ladder possible earlier xs (x ∷ later) pieces
+      → IsRow ladder possible (earlier ++ xs) x later row → AreRowsBetween ladder possible earlier (xs ++ x ∷ []) later (pieces ++ row)
   one_row earlier [] later x pieces row are is = (
     row,
     [],
-    subst (λ (es : List Entry). IsRow ladder es x later row) (append-nil earlier) is,
+    subst (λ (es : List Entry). IsRow ladder possible es x later row) (append-nil earlier) is,
     refl,
     ap (λ (ps : List Piece). ps ++ row) are ∙ sym (append-nil row),
   )
   one_row earlier (y ∷ ys) later x pieces row (first, rest, its, more, whole) is = (
     first,
     rest ++ row,
-    subst (λ (es : List Entry). IsRow ladder earlier y es first) (sym (append_assoc ys (x ∷ []) later)) its,
-    one_row (earlier ++ y ∷ []) ys later x rest row more (subst (λ (es : List Entry). IsRow ladder es x later row) (sym (append_assoc earlier (y ∷ []) ys)) is),
+    subst (λ (es : List Entry). IsRow ladder possible earlier y es first) (sym (append_assoc ys (x ∷ []) later)) its,
+    one_row (earlier ++ y ∷ []) ys later x rest row more (subst (λ (es : List Entry). IsRow ladder possible es x later row) (sym (append_assoc earlier (y ∷ []) ys)) is),
     ap (λ (ps : List Piece). ps ++ row) whole ∙ append_assoc first rest row,
   )
 
@@ -62,7 +62,7 @@ pub record Known (entries : List Entry) (i : ℕ) (previous : Option Entry) (gre
   pub most : greatest ≡ greatest_in 0 (take i entries)
   pub opened : AreOpens (before_in nothing_before (take i entries)).received (before_in nothing_before (take i entries)).sent opens
 
-module _ (ladder : Ladder) (entries : List Entry) (i : ℕ) (d : Entry) (within : i < length entries) where
+module _ (ladder : Ladder) (possible : List ℕ) (entries : List Entry) (i : ℕ) (d : Entry) (within : i < length entries) where
   abbrev it : Entry
   it = get_or entries i d
 
@@ -79,28 +79,28 @@ module _ (ladder : Ladder) (entries : List Entry) (i : ℕ) (d : Entry) (within 
 
   module _ (previous : Option Entry) (greatest : ℕ) (opens : Opens) (part : Part) (row : List Piece) where
     next_row : Known entries i previous greatest opens → part ≡ part_in ladder.impossible (take i entries) it (drop (i + 1) entries)
-        → IsRowOf ladder opens greatest previous i it part row → IsRow ladder (take i entries) it (drop (i + 1) entries) row
+        → IsEntryOf ladder possible opens greatest previous i it part row → IsRow ladder possible (take i entries) it (drop (i + 1) entries) row
     next_row known is shows =
         let count : i ≡ length (take i entries) = sym (length-take-le i entries (omega (arith, within))) in (
           opens,
           known.opened,
-          subst (λ (p : Part). IsRowOf ladder opens (greatest_in 0 (take i entries)) (last_or None (take i entries)) (length (take i entries)) it p row) is
-              (subst (λ (n : ℕ). IsRowOf ladder opens (greatest_in 0 (take i entries)) (last_or None (take i entries)) n it part row) count
-              (subst (λ (o : Option Entry). IsRowOf ladder opens (greatest_in 0 (take i entries)) o i it part row) known.last
-              (subst (λ (g : ℕ). IsRowOf ladder opens g previous i it part row) known.most shows))),
+          subst (λ (p : Part). IsEntryOf ladder possible opens (greatest_in 0 (take i entries)) (last_or None (take i entries)) (length (take i entries)) it p row) is
+              (subst (λ (n : ℕ). IsEntryOf ladder possible opens (greatest_in 0 (take i entries)) (last_or None (take i entries)) n it part row) count
+              (subst (λ (o : Option Entry). IsEntryOf ladder possible opens (greatest_in 0 (take i entries)) o i it part row) known.last
+              (subst (λ (g : ℕ). IsEntryOf ladder possible opens g previous i it part row) known.most shows))),
         )
 
     -- and it was put
     pub next_rows : {W : Type 0} {sink : sinks.Ghosts W} {a b c : Lines W sink} → Joins sink → Known entries i previous greatest opens
         → part ≡ part_in ladder.impossible (take i entries) it (drop (i + 1) entries)
-        → PutsRowsBefore ladder (take i entries) (drop i entries) a b → IsRowOf ladder opens greatest previous i it part row
-        → Writes b c (html_of row) → PutsRowsBefore ladder (take (i + 1) entries) (drop (i + 1) entries) a c
+        → PutsRowsBefore ladder possible (take i entries) (drop i entries) a b → IsEntryOf ladder possible opens greatest previous i it part row
+        → Writes b c (html_of row) → PutsRowsBefore ladder possible (take (i + 1) entries) (drop (i + 1) entries) a c
     next_rows {W} {sink} {a} {b} {c} law known is puts shows put =
-        let are : AreRowsBefore ladder (take i entries) (it ∷ drop (i + 1) entries) puts.0 =
-        subst (λ (es : List Entry). AreRowsBefore ladder (take i entries) es puts.0) (rest_here entries i d within) puts.1 in (
+        let are : AreRowsBefore ladder possible (take i entries) (it ∷ drop (i + 1) entries) puts.0 =
+        subst (λ (es : List Entry). AreRowsBefore ladder possible (take i entries) es puts.0) (rest_here entries i d within) puts.1 in (
           puts.0 ++ row,
-          subst (λ (es : List Entry). AreRowsBefore ladder es (drop (i + 1) entries) (puts.0 ++ row)) (sym (take_more entries i d within))
-              (one_row ladder [] (take i entries) (drop (i + 1) entries) it puts.0 row are (next_row known is shows)),
+          subst (λ (es : List Entry). AreRowsBefore ladder possible es (drop (i + 1) entries) (puts.0 ++ row)) (sym (take_more entries i d within))
+              (one_row ladder possible [] (take i entries) (drop (i + 1) entries) it puts.0 row are (next_row known is shows)),
           together puts.0 row (and_then law puts.2 put),
         )
 

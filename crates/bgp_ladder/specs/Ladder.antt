@@ -1,6 +1,6 @@
 -- A ladder: a row a record.
-use Rattle.std.specs.Prelude.{◌≡◌, ◌<◌, ◌++◌, ◌+◌, ◌-◌, ◌==◌, ℕ, List, [], ◌∷◌, Option, None, Some}
-use Rattle.std.specs.Prelude.{codes, if◌then◌else◌, length, nat_lt, reverse}
+use Rattle.std.specs.Prelude.{◌≡◌, ◌<◌, ◌++◌, ◌+◌, ◌-◌, ◌*◌, ◌/◌, ◌%◌, ◌==◌, ℕ, List, [], ◌∷◌}
+use Rattle.std.specs.Prelude.{Option, None, Some, codes, if◌then◌else◌, length, nat_lt, reverse}
 use Rattle.std.specs.List.{last_or}
 use Rattle.std.specs.Fmt.{decimal}
 use Rattle.bgp_prefix.specs.Shown.{ShownRecord, Received as In, Sent as Out, Changed}
@@ -20,6 +20,7 @@ use Rattle.bgp_recording.specs.declared.entry.Entry.{Entry}
 use Rattle.bgp_values.specs.Opens.{AreOpens}
 use Rattle.bgp_values.specs.declared.opens.Opens.{Opens}
 use Rattle.bgp_ladder.specs.Deed.{IsDeedBy}
+use Rattle.bgp_ladder.specs.Possible.{behind_pieces, last_pieces}
 use Rattle.bgp_ladder.specs.Runs.{part_of, run_before, run_behind, type_of}
 use Rattle.bgp_ladder.specs.declared.rows.Ladder.{Ladder}
 use Rattle.bgp_ladder.specs.declared.runs.Part.{Part}
@@ -43,18 +44,42 @@ head_pieces column caption left right =
 
 -- ---- a row
 
--- how many seconds it is behind the connection's first packet
-abbrev pub elapsed_words : ℕ → ℕ → List ℕ
-elapsed_words first second = codes "+" ++ (decimal (second - first) ++ codes " s")
+-- how many microseconds the first moment is before the other, each a second and a fraction of it
+abbrev pub micros_between : ℕ → ℕ → ℕ → ℕ → ℕ
+micros_between first from second to = (second * 1000000 + to) - (first * 1000000 + from)
 
--- its time, behind an entry or as the first: empty if it has the second of that
-abbrev pub time_behind : ℕ → Entry → Entry → List ℕ
-time_behind first previous entry =
-    if entry.second == previous.second then [] else elapsed_words first entry.second
+-- the last six digits of microseconds
+abbrev pub fraction_words : ℕ → List ℕ
+fraction_words micros =
+    46 ∷ (48 + micros / 100000 % 10) ∷ (48 + micros / 10000 % 10) ∷ (48 + micros / 1000 % 10)
+    ∷ (48 + micros / 100 % 10) ∷ (48 + micros / 10 % 10) ∷ (48 + micros % 10) ∷ []
 
-abbrev pub time_after : ℕ → Option Entry → Entry → List ℕ
-time_after first None entry = elapsed_words first entry.second
-time_after first (Some previous) entry = time_behind first previous entry
+abbrev pub precise_words : ℕ → List ℕ
+precise_words micros =
+    codes "+" ++ (decimal (micros / 1000000) ++ (fraction_words micros ++ codes " s"))
+
+abbrev pub whole_words : ℕ → ℕ → List ℕ
+whole_words first second = codes "+" ++ (decimal (second - first) ++ codes " s")
+
+abbrev pub between_words : ℕ → Option ℕ → ℕ → Option ℕ → List ℕ
+between_words first None second to = whole_words first second
+between_words first (Some from) second None = whole_words first second
+between_words first (Some from) second (Some to) =
+    precise_words (micros_between first from second to)
+
+-- how long its packet is behind the connection's first, in seconds: with their fraction, if the
+-- recording has it of both
+abbrev pub elapsed_words : Ladder → Entry → List ℕ
+elapsed_words ladder entry = between_words ladder.first ladder.micro entry.second entry.micro
+
+-- its time, behind an entry or as the first: empty if it has the packet of that
+abbrev pub time_behind : Ladder → Entry → Entry → List ℕ
+time_behind ladder previous entry =
+    if entry.packet == previous.packet then [] else elapsed_words ladder entry
+
+abbrev pub time_after : Ladder → Option Entry → Entry → List ℕ
+time_after ladder None entry = elapsed_words ladder entry
+time_after ladder (Some previous) entry = time_behind ladder previous entry
 
 -- the greatest packet of these entries and of this one
 abbrev pub greatest_in : ℕ → List Entry → ℕ
@@ -64,10 +89,10 @@ greatest_in packet (entry ∷ entries) =
     else greatest_in packet entries
 
 -- if its packet came before the greatest one so far, its time says so
-abbrev pub time_words : ℕ → ℕ → Option Entry → Entry → List ℕ
-time_words first greatest previous entry =
-    if nat_lt entry.packet greatest then elapsed_words first entry.second ++ codes ", came before"
-    else time_after first previous entry
+abbrev pub time_words : Ladder → ℕ → Option Entry → Entry → List ℕ
+time_words ladder greatest previous entry =
+    if nat_lt entry.packet greatest then elapsed_words ladder entry ++ codes ", came before"
+    else time_after ladder previous entry
 
 abbrev pub what_of : Column → ShownRecord → What
 what_of column (In second octets) = whats.Received column
@@ -105,7 +130,7 @@ abbrev pub front_pieces : Ladder → ℕ → Option Entry → ℕ → Entry → 
 front_pieces ladder greatest previous number entry =
     Markup (tags.Row (what_of ladder.column (shown_of entry.record))
     (mark_at ladder.impossible number))
-    ∷ Words (time_words ladder.first greatest previous entry)
+    ∷ Words (time_words ladder greatest previous entry)
     ∷ number_pieces entry.packet (number + 1)
 
 abbrev pub row_pieces : Ladder → ℕ → Option Entry → ℕ → Entry → List ℕ → List Piece
@@ -171,6 +196,13 @@ module _ (ladder : Ladder) (opens : Opens) (greatest : ℕ) (previous : Option E
   IsRowOf (parts.Sum count) row = row ≡ sum_pieces ladder number count (shown_of entry.record)
   IsRowOf parts.Summed row = row ≡ []
 
+-- behind that of the no what could have come in its place: the lines of this text say it
+abbrev pub IsEntryOf : Ladder → List ℕ → Opens → ℕ → Option Entry → ℕ → Entry → Part → List Piece
+    → Type 0
+IsEntryOf ladder possible opens greatest previous number entry part row =
+    (own : List Piece) × IsRowOf ladder opens greatest previous number entry part own
+    × (row ≡ own ++ behind_pieces ladder.impossible possible number)
+
 -- the numbers of the entries that one sums up are no greater than a machine's
 abbrev pub LastWithin : ℕ → ℕ → Part → Type 0
 LastWithin most number parts.Own = Unit {0}
@@ -185,51 +217,58 @@ part_in mark earlier entry later =
     (run_behind mark (length earlier) (shown_of entry.record) later)
 
 -- what stands for it
-abbrev pub IsRow : Ladder → List Entry → Entry → List Entry → List Piece → Type 0
-IsRow ladder earlier entry later row =
+abbrev pub IsRow : Ladder → List ℕ → List Entry → Entry → List Entry → List Piece → Type 0
+IsRow ladder possible earlier entry later row =
     (opens : Opens)
     × AreOpens (before_in nothing_before earlier).received (before_in nothing_before earlier).sent
     opens
-    × IsRowOf ladder opens (greatest_in 0 earlier) (last_or None earlier) (length earlier) entry
-    (part_in ladder.impossible earlier entry later) row
+    × IsEntryOf ladder possible opens (greatest_in 0 earlier) (last_or None earlier)
+    (length earlier) entry (part_in ladder.impossible earlier entry later) row
 
 -- the rows of entries behind these and before those, one after another
-abbrev pub AreRowsBetween : Ladder → List Entry → List Entry → List Entry → List Piece → Type 0
-AreRowsBetween ladder earlier [] later pieces = pieces ≡ []
-AreRowsBetween ladder earlier (entry ∷ entries) later pieces =
-    (row rest : List Piece) × IsRow ladder earlier entry (entries ++ later) row
-    × AreRowsBetween ladder (earlier ++ entry ∷ []) entries later rest × (pieces ≡ row ++ rest)
+abbrev pub AreRowsBetween : Ladder → List ℕ → List Entry → List Entry → List Entry → List Piece
+    → Type 0
+AreRowsBetween ladder possible earlier [] later pieces = pieces ≡ []
+AreRowsBetween ladder possible earlier (entry ∷ entries) later pieces =
+    (row rest : List Piece) × IsRow ladder possible earlier entry (entries ++ later) row
+    × AreRowsBetween ladder possible (earlier ++ entry ∷ []) entries later rest
+    × (pieces ≡ row ++ rest)
 
 -- those of the first entries, with others behind them
-abbrev pub AreRowsBefore : Ladder → List Entry → List Entry → List Piece → Type 0
-AreRowsBefore ladder entries later pieces = AreRowsBetween ladder [] entries later pieces
+abbrev pub AreRowsBefore : Ladder → List ℕ → List Entry → List Entry → List Piece → Type 0
+AreRowsBefore ladder possible entries later pieces =
+    AreRowsBetween ladder possible [] entries later pieces
 
 -- they were put
-abbrev pub PutsRowsBefore : {W : Type 0} {sink : sinks.Ghosts W} → Ladder → List Entry
+abbrev pub PutsRowsBefore : {W : Type 0} {sink : sinks.Ghosts W} → Ladder → List ℕ → List Entry
     → List Entry → Lines W sink → Lines W sink → Type 0
-PutsRowsBefore ladder entries later old new =
-    (pieces : List Piece) × AreRowsBefore ladder entries later pieces
+PutsRowsBefore ladder possible entries later old new =
+    (pieces : List Piece) × AreRowsBefore ladder possible entries later pieces
     × Writes old new (html_of pieces)
 
--- those of all of them
-abbrev pub AreRows : Ladder → List Entry → List Piece → Type 0
-AreRows ladder entries pieces = AreRowsBefore ladder entries [] pieces
+-- those of all of them; if there is no no, what could have come next stands behind them
+abbrev pub AreRows : Ladder → List ℕ → List Entry → List Piece → Type 0
+AreRows ladder possible entries pieces =
+    (rows : List Piece) × AreRowsBefore ladder possible entries [] rows
+    × (pieces ≡ rows ++ last_pieces ladder.impossible possible)
 
-abbrev pub PutsRows : {W : Type 0} {sink : sinks.Ghosts W} → Ladder → List Entry → Lines W sink
-    → Lines W sink → Type 0
-PutsRows ladder entries old new = PutsRowsBefore ladder entries [] old new
+abbrev pub PutsRows : {W : Type 0} {sink : sinks.Ghosts W} → Ladder → List ℕ → List Entry
+    → Lines W sink → Lines W sink → Type 0
+PutsRows ladder possible entries old new =
+    (pieces : List Piece) × AreRows ladder possible entries pieces × Writes old new (html_of pieces)
 
 -- those of the first of them were put, as many as there are
-abbrev pub PutsSome : {W : Type 0} {sink : sinks.Ghosts W} → Ladder → List Entry → Lines W sink
-    → Lines W sink → Type 0
-PutsSome ladder entries old new =
+abbrev pub PutsSome : {W : Type 0} {sink : sinks.Ghosts W} → Ladder → List ℕ → List Entry
+    → Lines W sink → Lines W sink → Type 0
+PutsSome ladder possible entries old new =
     (front behind : List Entry) × (entries ≡ front ++ behind)
-    × PutsRowsBefore ladder front behind old new
+    × PutsRowsBefore ladder possible front behind old new
 
 -- ---- what holds of rows
 
 -- none of them is a line that is printed as text
 abbrev pub RowsAreNotPrinted : Type 0
 RowsAreNotPrinted =
-    (ladder : Ladder) (entries later : List Entry) (pieces : List Piece)
-    → AreRowsBefore ladder entries later pieces → printed_of pieces ≡ []
+    (ladder : Ladder) (possible : List ℕ) (entries later : List Entry) (pieces : List Piece)
+    → (AreRowsBefore ladder possible entries later pieces → printed_of pieces ≡ [])
+    × (AreRows ladder possible entries pieces → printed_of pieces ≡ [])

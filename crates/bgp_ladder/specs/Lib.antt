@@ -2,4 +2,5 @@
 pub mod Deed
 pub mod Runs
 pub mod Batch
+pub mod Possible
 pub mod Ladder

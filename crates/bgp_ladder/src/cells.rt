@@ -1,56 +1,20 @@
 //! The first cells of a row: the time, the packet and the number of its record.
 
-ghost use Rattle.std.specs.Prelude.{◌≡◌, ◌++◌, ◌∷◌, [], IsTrue, codes};
+ghost use Rattle.std.specs.Prelude.{◌≡◌, ◌+◌, ◌%◌, ◌++◌, codes};
 ghost use Rattle.std.specs.Fmt.{decimal};
 ghost use Rattle.bgp_text.specs.Lines.{Writes};
-ghost use Rattle.bgp_html.specs.Escaped.{escape_octet, escaped};
+ghost use Rattle.bgp_html.specs.Escaped.{escaped};
 ghost use Rattle.bgp_html.specs.Pieces.{html_of};
-ghost use Rattle.bgp_ladder.specs.Ladder.{elapsed_words, number_pieces, time_after, time_behind};
-ghost use Rattle.bgp_ladder.specs.Ladder.{time_words};
+ghost use Rattle.bgp_ladder.specs.Ladder.{elapsed_words, fraction_words, micros_between};
+ghost use Rattle.bgp_ladder.specs.Ladder.{number_pieces, precise_words, time_after, time_behind};
+ghost use Rattle.bgp_ladder.specs.Ladder.{time_words, whole_words};
 
+use crate::rows::Ladder;
 use bgp_html::{Tag, put_escaped, put_tag};
 use bgp_prefix::Seconds;
 use bgp_recording::Entry;
 use bgp_text::Lines;
 use mrt::Sink;
-
-/// Checks whether HTML has an octet as it is.
-#[tactic(auto, unfolding(bgp_html::specs::Escaped::escape_octet))]
-fn is_plain(octet: u8) -> bool
-    ensures { IsTrue result → escape_octet octet ≡ octet ∷ [] }
-{
-    match octet {
-        b'&' => false,
-        b'<' => false,
-        b'>' => false,
-        b'"' => false,
-        b'\'' => false,
-        _ => true,
-    }
-}
-
-/// Checks whether HTML has a text as it is.
-fn are_plain(text: &[u8]) -> bool
-    ensures { IsTrue result → escaped text.now ≡ text.now }
-{
-    for octet in text {
-        if !is_plain(*octet) {
-            return false;
-        }
-    }
-    true
-}
-
-/// Puts a text into HTML, at once if all of its octets stand there as they are.
-pub(crate) fn put_words<W: Sink>(lines: &mut Lines<'_, W>, text: &[u8])
-    ensures { Writes lines.old lines.new (escaped text.now) }
-{
-    if are_plain(text) {
-        lines.put(text);
-    } else {
-        put_escaped(lines, text);
-    }
-}
 
 /// Puts a number.
 pub(crate) fn put_number<W: Sink>(lines: &mut Lines<'_, W>, number: u64)
@@ -59,70 +23,126 @@ pub(crate) fn put_number<W: Sink>(lines: &mut Lines<'_, W>, number: u64)
     lines.put_decimal(number);
 }
 
-/// Puts how many seconds a packet is behind the first.
-fn put_elapsed<W: Sink>(lines: &mut Lines<'_, W>, first: Seconds, second: Seconds)
-    ensures { Writes lines.old lines.new (escaped (elapsed_words first second)) }
+/// Returns how many microseconds the first moment is before the other, or 0 if it is behind it.
+fn micros_between(first: Seconds, from: u32, second: Seconds, to: u32) -> u64
+    ensures { result ≡ micros_between first from second to }
+{
+    let start = u64::from(first) * 1_000_000 + u64::from(from);
+    let end = u64::from(second) * 1_000_000 + u64::from(to);
+    end.saturating_sub(start)
+}
+
+/// Returns the octet of the last digit of a number.
+fn last_digit(number: u64) -> u8
+    ensures { result ≡ 48 + number % 10 }
+{
+    b'0' + (number % 10) as u8
+}
+
+/// Puts microseconds as a fraction of a second.
+fn put_fraction<W: Sink>(lines: &mut Lines<'_, W>, micros: u64)
+    ensures { Writes lines.old lines.new (escaped (fraction_words micros)) }
+{
+    let digits = [
+        b'.',
+        last_digit(micros / 100_000),
+        last_digit(micros / 10_000),
+        last_digit(micros / 1000),
+        last_digit(micros / 100),
+        last_digit(micros / 10),
+        last_digit(micros),
+    ];
+    put_escaped(lines, &digits);
+}
+
+/// Puts how many microseconds a packet is behind the first, as seconds.
+fn put_precise<W: Sink>(lines: &mut Lines<'_, W>, micros: u64)
+    ensures { Writes lines.old lines.new (escaped (precise_words micros)) }
+{
+    put_escaped(lines, b"+");
+    put_number(lines, micros / 1_000_000);
+    put_fraction(lines, micros);
+    put_escaped(lines, b" s");
+}
+
+/// Puts how many seconds a packet is behind the first, of which no fraction is known.
+fn put_whole<W: Sink>(lines: &mut Lines<'_, W>, first: Seconds, second: Seconds)
+    ensures { Writes lines.old lines.new (escaped (whole_words first second)) }
 {
     put_escaped(lines, b"+");
     put_number(lines, u64::from(second.saturating_sub(first)));
     put_escaped(lines, b" s");
 }
 
+/// Puts how long an entry's packet is behind the first of the connection.
+fn put_elapsed<W: Sink>(lines: &mut Lines<'_, W>, ladder: &Ladder, entry: &Entry<'_>)
+    ensures { Writes lines.old lines.new (escaped (elapsed_words ladder.now entry.now)) }
+{
+    match (ladder.micro, entry.micro) {
+        (Some(from), Some(to)) => {
+            put_precise(lines, micros_between(ladder.first, from, entry.second, to));
+        }
+        (Some(_) | None, _) => put_whole(lines, ladder.first, entry.second),
+    }
+}
+
 /// Puts the time of an entry behind another.
 fn put_time_behind<W: Sink>(
     lines: &mut Lines<'_, W>,
-    first: Seconds,
+    ladder: &Ladder,
     previous: &Entry<'_>,
     entry: &Entry<'_>,
 )
-    ensures { Writes lines.old lines.new (escaped (time_behind first previous.now entry.now)) }
+    ensures { Writes lines.old lines.new
+        (escaped (time_behind ladder.now previous.now entry.now)) }
 {
-    if entry.second == previous.second {
+    if entry.packet == previous.packet {
         put_escaped(lines, b"");
     } else {
-        put_elapsed(lines, first, entry.second);
+        put_elapsed(lines, ladder, entry);
     }
 }
 
 /// Puts the time of an entry, behind another or as the first.
 fn put_time_after<W: Sink>(
     lines: &mut Lines<'_, W>,
-    first: Seconds,
+    ladder: &Ladder,
     previous: Option<Entry<'_>>,
     entry: &Entry<'_>,
 )
-    ensures { Writes lines.old lines.new (escaped (time_after first previous.entry entry.now)) }
+    ensures { Writes lines.old lines.new
+        (escaped (time_after ladder.now previous.entry entry.now)) }
 {
     match previous {
-        None => put_elapsed(lines, first, entry.second),
-        Some(previous) => put_time_behind(lines, first, &previous, entry),
+        None => put_elapsed(lines, ladder, entry),
+        Some(previous) => put_time_behind(lines, ladder, &previous, entry),
     }
 }
 
 /// Puts the time of an entry whose packet came before that of a row above it.
-fn put_late<W: Sink>(lines: &mut Lines<'_, W>, first: Seconds, second: Seconds)
+fn put_late<W: Sink>(lines: &mut Lines<'_, W>, ladder: &Ladder, entry: &Entry<'_>)
     ensures { Writes lines.old lines.new
-        (escaped (elapsed_words first second ++ codes ", came before")) }
+        (escaped (elapsed_words ladder.now entry.now ++ codes ", came before")) }
 {
-    put_elapsed(lines, first, second);
+    put_elapsed(lines, ladder, entry);
     put_escaped(lines, b", came before");
 }
 
 /// Puts the time of an entry behind these, behind the row of another or none.
 pub(crate) fn put_time<W: Sink>(
     lines: &mut Lines<'_, W>,
-    first: Seconds,
+    ladder: &Ladder,
     greatest: u64,
     previous: Option<Entry<'_>>,
     entry: &Entry<'_>,
 )
     ensures { Writes lines.old lines.new
-        (escaped (time_words first greatest previous.entry entry.now)) }
+        (escaped (time_words ladder.now greatest previous.entry entry.now)) }
 {
     if entry.packet < greatest {
-        put_late(lines, first, entry.second);
+        put_late(lines, ladder, entry);
     } else {
-        put_time_after(lines, first, previous, entry);
+        put_time_after(lines, ladder, previous, entry);
     }
 }
 

@@ -4,7 +4,7 @@
 //!
 //! ```text
 //! put_head(&mut lines, ladder.column, caption, left, right);
-//! put_rows(&mut lines, &ladder, &entries);
+//! put_rows(alloc, &mut lines, &ladder, possible, &entries);
 //! put_tag(&mut lines, Tag::LadderEnd);
 //! ```
 #![tactic(auto)]
@@ -14,10 +14,11 @@ mod cells;
 mod deed;
 mod head;
 mod laws;
+mod possible;
 mod rows;
 mod runs;
 mod sums;
 
 pub use head::put_head;
-pub use laws::rows_are_not_printed;
+pub use laws::{each_line_has_a_row, rows_are_not_printed};
 pub use rows::{Ladder, put_rows};

@@ -8,16 +8,18 @@ ghost use Rattle.bgp_values.specs.Opens.{AreOpens};
 ghost use Rattle.bgp_values.specs.declared.opens.Opens.{Opens};
 ghost use Rattle.bgp_lines.specs.Form.{Before as Messages, before_behind};
 ghost use Rattle.bgp_ladder.specs.Batch.{IsShownBy};
-ghost use Rattle.bgp_ladder.specs.Ladder.{IsRowOf, LastWithin, PutsRows, PutsSome};
+ghost use Rattle.bgp_ladder.specs.Ladder.{IsEntryOf, IsRowOf, LastWithin, PutsRows};
+ghost use Rattle.bgp_ladder.specs.Ladder.{PutsRowsBefore, PutsSome};
 ghost use Rattle.bgp_ladder.specs.Ladder.{change_pieces, deed_pieces, front_pieces, greatest_in};
 ghost use Rattle.bgp_ladder.specs.Ladder.{mark_at};
 ghost use Rattle.bgp_ladder.specs.Ladder.{message_pieces, row_pieces, what_of};
 
 use crate::batch::{Batch, filled};
-use crate::cells::{put_numbers, put_time, put_words};
+use crate::cells::{put_numbers, put_time};
+use crate::possible::{put_behind, put_last};
 use crate::runs::{Part, Run, next_run, part_of};
 use crate::sums::put_sum;
-use bgp_html::{Column, Mark, Tag, What, put_tag};
+use bgp_html::{Column, Mark, Tag, What, put_escaped, put_tag};
 use bgp_prefix::Seconds;
 use bgp_recording::{Entry, Framings};
 use bgp_text::Lines;
@@ -32,6 +34,8 @@ pub struct Ladder {
     pub column: Column,
     /// The second of the connection's first packet.
     pub first: Seconds,
+    /// The microseconds of that second, where the recording has them.
+    pub micro: Option<u32>,
     /// How both directions are framed: a longer message has a faulty header.
     pub framings: Framings,
     /// The record at which a no stands, counted from 0, if there is one.
@@ -90,16 +94,16 @@ fn put_front<W: Sink>(
 {
     let what = what_of(ladder.column, &entry.record);
     put_tag(lines, Tag::Row(what, mark_at(ladder.impossible, number)));
-    put_time(lines, ladder.first, before.greatest, before.previous, entry);
+    put_time(lines, ladder, before.greatest, before.previous, entry);
     put_numbers(lines, entry.packet, number as u64 + 1);
 }
 
 /// Puts a message that says this, and the end of its row.
-fn put_message<W: Sink>(lines: &mut Lines<'_, W>, text: &[u8])
+pub(crate) fn put_message<W: Sink>(lines: &mut Lines<'_, W>, text: &[u8])
     ensures { Writes lines.old lines.new (html_of (message_pieces text.now)) }
 {
     put_tag(lines, Tag::Message);
-    put_words(lines, text);
+    put_escaped(lines, text);
     put_tag(lines, Tag::MessageEnd);
 }
 
@@ -108,7 +112,7 @@ fn put_change<W: Sink>(lines: &mut Lines<'_, W>, column: Column, text: &[u8])
     ensures { Writes lines.old lines.new (html_of (change_pieces column text.now)) }
 {
     put_tag(lines, Tag::Change(column));
-    put_words(lines, text);
+    put_escaped(lines, text);
     put_tag(lines, Tag::ChangeEnd(column));
 }
 
@@ -172,6 +176,29 @@ fn put_part<W: Sink>(
     }
 }
 
+/// Puts what stands for an entry behind these, by how it does, with what it shows; behind that of
+/// the no what could have come in its place.
+fn put_entry<W: Sink>(
+    lines: &mut Lines<'_, W>,
+    ladder: &Ladder,
+    possible: &[u8],
+    before: &Before<'_>,
+    number: usize,
+    entry: &Entry<'_>,
+    part: Part,
+    text: &[u8],
+)
+    requires first { number < u64.MAX }
+    requires last { LastWithin u64.MAX number part }
+    ensures { (opens : Opens)
+        → IsShownBy ladder.now.framings opens (shown_of entry.now.record) part text.now
+        → (row : List Piece) × IsEntryOf ladder.now possible.now opens before.now.greatest
+        before.now.previous number entry.now part row × Writes lines.old lines.new (html_of row) }
+{
+    put_part(lines, ladder, before, number, entry, part, text);
+    put_behind(lines, ladder, possible, number);
+}
+
 /// Takes what a record shows.
 pub(crate) fn take_shown(opens: &mut Opens, shown: &Record<'_>)
     ensures { (before : Messages) → AreOpens before.received before.sent opens.old
@@ -200,21 +227,18 @@ fn behind<'a>(before: Before<'a>, entry: &Entry<'a>) -> Before<'a>
     }
 }
 
-/// Puts the rows of these entries, one after another, each with its packet, its number from 1 on
-/// and what it shows: a message as `bgp decode --names` prints it, with what the OPENs before it
-/// settle. The record at which a no stands is marked, and those behind it are. If more than 40
-/// messages of one direction and type follow one another, and the no stands at none of them, one
-/// row sums up those between the first and the last.
-///
-/// If memory is refused for a row, those before it are put, and nothing of it.
-pub fn put_rows<A: Allocator + Copy, W: Sink>(
+/// Puts the rows of these entries, and behind that of the no what could have come in its place.
+fn put_all<A: Allocator + Copy, W: Sink>(
     alloc: A,
     lines: &mut Lines<'_, W>,
     ladder: &Ladder,
+    possible: &[u8],
     entries: &[Entry<'_>],
 ) -> Result<(), AllocError>
-    ensures ok { OnOk result (PutsRows ladder.now entries.now lines.old lines.new) }
-    ensures err { OnErr result (PutsSome ladder.now entries.now lines.old lines.new) }
+    ensures ok { OnOk result
+        (PutsRowsBefore ladder.now possible.now entries.now [] lines.old lines.new) }
+    ensures err { OnErr result
+        (PutsSome ladder.now possible.now entries.now lines.old lines.new) }
 {
     let mut opens = Opens::new();
     let mut before = Before {
@@ -233,18 +257,38 @@ pub fn put_rows<A: Allocator + Copy, W: Sink>(
         let rest = entries.split_at(number).1;
         batch = filled(alloc, batch, &opens, ladder.framings, rest, part)?;
         let end = batch.end();
-        put_part(
-            lines,
-            ladder,
-            &before,
-            number,
-            entry,
-            part,
-            batch.words(end),
-        );
+        let text = batch.words(end);
+        put_entry(lines, ladder, possible, &before, number, entry, part, text);
         batch.pass(end);
         take_shown(&mut opens, &entry.record);
         before = behind(before, entry);
     }
+    Ok(())
+}
+
+/// Puts the rows of these entries, one after another, each with its packet, its number from 1 on
+/// and what it shows: a message as `bgp decode --names` prints it, with what the OPENs before it
+/// settle. The record at which a no stands is marked, and those behind it are. If more than 40
+/// messages of one direction and type follow one another, and the no stands at none of them, one
+/// row sums up those between the first and the last.
+///
+/// The lines of a text say what could have come in place of the no's record, or after all records
+/// if there is no no: each has a row there.
+///
+/// If memory is refused for a row, those before it are put, and nothing of it.
+pub fn put_rows<A: Allocator + Copy, W: Sink>(
+    alloc: A,
+    lines: &mut Lines<'_, W>,
+    ladder: &Ladder,
+    possible: &[u8],
+    entries: &[Entry<'_>],
+) -> Result<(), AllocError>
+    ensures ok { OnOk result
+        (PutsRows ladder.now possible.now entries.now lines.old lines.new) }
+    ensures err { OnErr result
+        (PutsSome ladder.now possible.now entries.now lines.old lines.new) }
+{
+    put_all(alloc, lines, ladder, possible, entries)?;
+    put_last(lines, ladder, possible);
     Ok(())
 }

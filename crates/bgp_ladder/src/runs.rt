@@ -74,7 +74,7 @@ fn are_alike(shown: &Record<'_>, next: &Record<'_>) -> bool
 }
 
 /// Checks whether the record with this number is that of the no.
-fn is_marked(impossible: Option<usize>, number: usize) -> bool
+pub(crate) fn is_marked(impossible: Option<usize>, number: usize) -> bool
     ensures { result ≡ is_marked impossible number }
 {
     match impossible {

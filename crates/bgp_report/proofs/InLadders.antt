@@ -20,7 +20,7 @@ use Rattle.bgp_ladder.specs.Ladder.{RowsAreNotPrinted}
 use Rattle.bgp_ladder.specs.declared.rows.Ladder.{Ladder}
 use Rattle.bgp_check_tool.specs.declared.marks.BothMarks.{BothMarks}
 use Rattle.bgp_check_tool.specs.declared.marks.EndMark.{EndMark}
-use Rattle.bgp_report.specs.Ladders.{AreBehind, AreItsRows, AreLadders, AreOfBoth, IsJudgedEnd, IsOfEnd, column_of, end_pieces, is_out, ladder_of, sent_at, side_words, some_judged, start_by, start_pieces, summary_words}
+use Rattle.bgp_report.specs.Ladders.{AreBehind, AreItsRows, AreLadders, AreOfBoth, IsJudgedEnd, IsOfEnd, behind_both, behind_end, column_of, end_pieces, is_out, ladder_of, sent_at, side_words, some_judged, start_by, start_pieces, summary_words}
 
 -- ---- the message behind so many that were sent
 
@@ -55,15 +55,24 @@ module _ (marks : List BothMarks) (i : ℕ) (d : BothMarks) (within : i < length
 
 -- ---- one connection more
 
-module _ (port within : ℕ) (packets : List Recorded) where
-  pub one_more : (marks : List BothMarks) (both : BothMarks) (pieces one : List Piece) → AreLadders port within packets marks pieces
-      → AreOfBoth port within packets both one → AreLadders port within packets (marks ++ both ∷ []) (pieces ++ one)
-  one_more [] both pieces one are is = (one, [], is, refl, ap (λ (ps : List Piece). ps ++ one) are ∙ sym (append-nil one))
-  one_more (first ∷ marks) both pieces one (its, rest, so, more, whole) is = (
+-- how many answers stand before that of the one behind these
+abbrev pub behind_all : ℕ → List BothMarks → ℕ
+behind_all count [] = count
+behind_all count (both ∷ marks) = behind_all (behind_both count both) marks
+
+pub one_behind : (count : ℕ) (marks : List BothMarks) (both : BothMarks) → behind_all count (marks ++ both ∷ []) ≡ behind_both (behind_all count marks) both
+one_behind count [] both = refl
+one_behind count (first ∷ marks) both = one_behind (behind_both count first) marks both
+
+module _ (port within : ℕ) (packets : List Recorded) (text : List ℕ) where
+  pub one_more : (count : ℕ) (marks : List BothMarks) (both : BothMarks) (pieces one : List Piece) → AreLadders port within packets text count marks pieces
+      → AreOfBoth port within packets text (behind_all count marks) both one → AreLadders port within packets text count (marks ++ both ∷ []) (pieces ++ one)
+  one_more count [] both pieces one are is = (one, [], is, refl, ap (λ (ps : List Piece). ps ++ one) are ∙ sym (append-nil one))
+  one_more count (first ∷ marks) both pieces one (its, rest, so, more, whole) is = (
     its,
     rest ++ one,
     so,
-    one_more marks both rest one more is,
+    one_more (behind_both count first) marks both rest one more is,
     ap (λ (ps : List Piece). ps ++ one) whole ∙ append_assoc its rest one,
   )
 
@@ -98,35 +107,39 @@ end_silent true = refl
 end_silent false = refl
 
 module _ (silent : RowsAreNotPrinted) where
-  rows_silent : (ladder : Ladder) (entries : List Entry) (is_whole : Bool) (rows : List Piece) → AreItsRows ladder entries is_whole rows → printed_of rows ≡ []
-  rows_silent ladder entries true rows are = silent ladder entries [] rows are
-  rows_silent ladder entries false rows (front, behind, whole, are) = silent ladder front behind rows are
+  rows_silent : (ladder : Ladder) (possible : List ℕ) (entries : List Entry) (is_whole : Bool) (rows : List Piece) → AreItsRows ladder possible entries is_whole rows
+      → printed_of rows ≡ []
+  rows_silent ladder possible entries true rows are = (silent ladder possible entries [] rows).1 are
+  rows_silent ladder possible entries false rows (front, behind, whole, are) = (silent ladder possible front behind rows).0 are
 
-  module _ (port within : ℕ) (packets : List Recorded) (both : BothMarks) (side : Side) (is_open : Bool) where
-    judged_silent : (mark : EndMark) (pieces : List Piece) → IsJudgedEnd port within packets both side is_open mark pieces → printed_of pieces ≡ []
-    judged_silent mark pieces (inl (connection, heard, its)) =
+  module _ (port within : ℕ) (packets : List Recorded) (text : List ℕ) (both : BothMarks) (side : Side) (is_open : Bool) (count : ℕ) where
+    judged_silent : (mark : EndMark) (pieces : List Piece) → IsJudgedEnd port within packets text both side is_open count mark pieces → printed_of pieces ≡ []
+    judged_silent mark pieces (inl (connection, possible, heard, noted, its)) =
         ap (λ (ps : List Piece). printed_of ps) its.is
         ∙ both_silent (start_pieces both.session both.opening side is_open mark.order) (its.rows ++ end_pieces its.is_whole) refl
-        (both_silent its.rows (end_pieces its.is_whole) (rows_silent (ladder_of connection its.framings both.opening side mark.no its.entries) its.entries its.is_whole its.rows its.are_rows) (end_silent its.is_whole))
+        (both_silent its.rows (end_pieces its.is_whole)
+        (rows_silent (ladder_of connection its.framings both.opening side mark.no its.entries) possible its.entries its.is_whole its.rows its.are_rows) (end_silent its.is_whole))
     judged_silent mark pieces (inr lacking) = ap (λ (ps : List Piece). printed_of ps) lacking
 
-    of_end_silent : (mark : Option EndMark) (pieces : List Piece) → IsOfEnd port within packets both side is_open mark pieces → printed_of pieces ≡ []
+    of_end_silent : (mark : Option EndMark) (pieces : List Piece) → IsOfEnd port within packets text both side is_open count mark pieces → printed_of pieces ≡ []
     of_end_silent None pieces is = ap (λ (ps : List Piece). printed_of ps) is
     of_end_silent (Some mark) pieces is = judged_silent mark pieces is
 
-  module _ (port within : ℕ) (packets : List Recorded) where
-    of_both_silent : (both : BothMarks) (pieces : List Piece) → AreOfBoth port within packets both pieces → printed_of pieces ≡ []
-    of_both_silent both pieces (opener, other, its, others, whole) =
+  module _ (port within : ℕ) (packets : List Recorded) (text : List ℕ) where
+    of_both_silent : (count : ℕ) (both : BothMarks) (pieces : List Piece) → AreOfBoth port within packets text count both pieces → printed_of pieces ≡ []
+    of_both_silent count both pieces (opener, other, its, others, whole) =
         ap (λ (ps : List Piece). printed_of ps) whole
-        ∙ both_silent opener other (of_end_silent port within packets both _ _ both.opener opener its) (of_end_silent port within packets both _ _ both.other other others)
+        ∙ both_silent opener other (of_end_silent port within packets text both _ _ count both.opener opener its)
+        (of_end_silent port within packets text both _ _ (behind_end count both.opener) both.other other others)
 
-    ladders_silent : (marks : List BothMarks) (pieces : List Piece) → AreLadders port within packets marks pieces → printed_of pieces ≡ []
-    ladders_silent [] pieces are = ap (λ (ps : List Piece). printed_of ps) are
-    ladders_silent (both ∷ marks) pieces (one, rest, its, more, whole) =
-        ap (λ (ps : List Piece). printed_of ps) whole ∙ both_silent one rest (of_both_silent both one its) (ladders_silent marks rest more)
+    ladders_silent : (count : ℕ) (marks : List BothMarks) (pieces : List Piece) → AreLadders port within packets text count marks pieces → printed_of pieces ≡ []
+    ladders_silent count [] pieces are = ap (λ (ps : List Piece). printed_of ps) are
+    ladders_silent count (both ∷ marks) pieces (one, rest, its, more, whole) =
+        ap (λ (ps : List Piece). printed_of ps) whole
+        ∙ both_silent one rest (of_both_silent count both one its) (ladders_silent (behind_both count both) marks rest more)
 
-    pub behind_silent : (marks : List BothMarks) (behind : List Piece) → AreBehind port within packets marks behind → printed_of behind ≡ []
+    pub behind_silent : (marks : List BothMarks) (behind : List Piece) → AreBehind port within packets text marks behind → printed_of behind ≡ []
     behind_silent marks behind (inl (none, is)) = ap (λ (ps : List Piece). printed_of ps) is
     behind_silent marks behind (inr (inl is)) = ap (λ (ps : List Piece). printed_of ps) is
     behind_silent marks behind (inr (inr (ladders, are, is))) =
-        ap (λ (ps : List Piece). printed_of ps) is ∙ both_silent ladders _ (ladders_silent marks ladders are) refl
+        ap (λ (ps : List Piece). printed_of ps) is ∙ both_silent ladders _ (ladders_silent 0 marks ladders are) refl

@@ -77,18 +77,19 @@ module _ {T : Type 0} (takes : T → T → List ℕ → Type 0) (from to : T) wh
           },
         )
 
-    -- with ladders after it
+    -- with ladders after it, as soon as these are known
     pub laddered_of : {Y : Type 0} (options : CheckOptions) (cut : Option CutShort) (firsts : List (Option Refusal)) (refusal : Option Refusal) (nothing : Option NothingJudged)
-        (talks : Talks Y) (marks marks' : Marks Y) (behind : List Piece)
+        (talks : Talks Y) (marks marks' : Marks Y)
         → (p : ChecksMarked gives has_ended takes source_failures (λ (a : T). 0) options source source' from to status cut firsts refusal nothing talks marks marks')
-        → options.form ≡ forms.Text → AreBehind options.port options.within p.checks.packets (marks_of options.printing p.checks.blocks) behind
-        → InMemory (λ written. ChecksWithLadders gives has_ended source_failures options source source' cut firsts refusal nothing written status behind)
-    laddered_of options cut firsts refusal nothing talks marks marks' behind p is are =
+        → options.form ≡ forms.Text
+        → InMemory (λ written. (behind : List Piece) → AreBehind options.port options.within p.checks.packets written (marks_of options.printing p.checks.blocks) behind
+        → ChecksWithLadders gives has_ended source_failures options source source' cut firsts refusal nothing written status behind)
+    laddered_of options cut firsts refusal nothing talks marks marks' p is =
         let q = p.checks in
         let wrote = written_in options.form is _ _ status q.written in (
           wrote.0,
           wrote.1,
-          record {
+          λ behind are. record {
             checks = record {
               packets = q.packets;
               short = q.short;

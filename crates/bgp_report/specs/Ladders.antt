@@ -26,6 +26,7 @@ use Rattle.bgp_import.specs.Selecting.{AreTaken}
 use Rattle.bgp_text.specs.Lines.{Writes}
 use Rattle.bgp_text.specs.declared.lines.Lines.{Lines}
 use Rattle.bgp_why.specs.Endpoint.{endpoint_text}
+use Rattle.bgp_html.specs.Noted.{possible_of}
 use Rattle.bgp_html.specs.Pieces.{Markup, Piece, Words, html_of, printed_of}
 use Rattle.bgp_html.specs.declared.tag.Column.{Column}
 use Rattle.bgp_html.specs.declared.tag.Column.TheVariants.{Left, Right}
@@ -85,6 +86,26 @@ place_in noes.Nowhere entries = None
 place_in (noes.Record count) entries = Some count
 place_in (noes.Message before) entries = sent_at 0 before entries
 
+-- ---- what could have come
+
+-- how many answers stand before an end's own, and before that of the next one
+abbrev pub behind_end : ℕ → Option EndMark → ℕ
+behind_end count None = count
+behind_end count (Some mark) = count + 1
+
+abbrev pub behind_both : ℕ → BothMarks → ℕ
+behind_both count both = behind_end (behind_end count both.opener) both.other
+
+-- the line that stands for those that memory was refused for
+abbrev pub refused_line : List ℕ
+refused_line = codes "There was no memory for what could have come.\n"
+
+-- These lines say what could have come, or had to, where an answer of a text stands: those of the
+-- text, of the answer behind so many.
+abbrev pub IsPossible : List ℕ → ℕ → List ℕ → Type 0
+IsPossible text count possible =
+    (possible ≡ possible_of text (count + 1)) ⊎ (possible ≡ refused_line)
+
 -- ---- a ladder
 
 -- the end that opened the connection is the left one
@@ -98,6 +119,7 @@ abbrev pub ladder_of : Connection → Framings → Opening → Side → NoAt →
 ladder_of connection framings opening side place entries = record {
   column = column_of opening.opened_by side;
   first = connection.second;
+  micro = connection.micro;
   framings = framings;
   impossible = place_in place entries;
 }
@@ -127,22 +149,24 @@ end_pieces false =
     ∷ Markup tags.DetailsEnd ∷ []
 
 -- these are the rows of all of them, or of the first
-abbrev pub AreItsRows : Ladder → List Entry → Bool → List Piece → Type 0
-AreItsRows ladder entries true rows = AreRows ladder entries rows
-AreItsRows ladder entries false rows =
+abbrev pub AreItsRows : Ladder → List ℕ → List Entry → Bool → List Piece → Type 0
+AreItsRows ladder possible entries true rows = AreRows ladder possible entries rows
+AreItsRows ladder possible entries false rows =
     (front behind : List Entry) × (entries ≡ front ++ behind)
-    × AreRowsBefore ladder front behind rows
+    × AreRowsBefore ladder possible front behind rows
 
 -- what was put of a ladder with these words: all rows, or the first
-abbrev pub PutsLadder : {W : Type 0} {sink : sinks.Ghosts W} → Ladder → List Entry → List Piece
-    → Lines W sink → Lines W sink → Type 0
-PutsLadder ladder entries start old new =
-    (is_whole : Bool) × (rows : List Piece) × AreItsRows ladder entries is_whole rows
+abbrev pub PutsLadder : {W : Type 0} {sink : sinks.Ghosts W} → Ladder → List ℕ → List Entry
+    → List Piece → Lines W sink → Lines W sink → Type 0
+PutsLadder ladder possible entries start old new =
+    (is_whole : Bool) × (rows : List Piece) × AreItsRows ladder possible entries is_whole rows
     × Writes old new (html_of (start ++ (rows ++ end_pieces is_whole)))
 
--- The records that the end on this side of a connection has, in the made order, as a ladder.
+-- The records that the end on this side of a connection has, in the made order, as a ladder; with
+-- what could have come.
 pub record IsLadder (within : ℕ) (connection : Connection) (session : Session) (opening : Opening)
-    (side : Side) (is_open : Bool) (mark : EndMark) (pieces : List Piece) : Type 0 where
+    (side : Side) (is_open : Bool) (mark : EndMark) (possible : List ℕ) (pieces : List Piece)
+    : Type 0 where
   pub entries : List Entry
   pub framings : Framings
   pub received : Unshown
@@ -150,8 +174,8 @@ pub record IsLadder (within : ℕ) (connection : Connection) (session : Session)
   pub made : IsMade within (seen_from side connection) framings entries received sent
   pub is_whole : Bool
   pub rows : List Piece
-  pub are_rows : AreItsRows (ladder_of connection framings opening side mark.no entries) entries
-      is_whole rows
+  pub are_rows : AreItsRows (ladder_of connection framings opening side mark.no entries) possible
+      entries is_whole rows
   pub is : pieces
       ≡ start_pieces session opening side is_open mark.order ++ (rows ++ end_pieces is_whole)
 
@@ -172,10 +196,10 @@ lacking_pieces =
     Markup tags.Details ∷ Words (codes "records of an end") ∷ Markup tags.SummaryEnd
     ∷ Words (codes "There was no memory for these records.") ∷ Markup tags.DetailsEnd ∷ []
 
-abbrev pub IsLadderOrLacking : ℕ → Connection → BothMarks → Side → Bool → EndMark → List Piece
-    → Type 0
-IsLadderOrLacking within connection both side is_open mark pieces =
-    IsLadder within connection both.session both.opening side is_open mark pieces
+abbrev pub IsLadderOrLacking : ℕ → Connection → BothMarks → Side → Bool → EndMark → List ℕ
+    → List Piece → Type 0
+IsLadderOrLacking within connection both side is_open mark possible pieces =
+    IsLadder within connection both.session both.opening side is_open mark possible pieces
     ⊎ (pieces ≡ lacking_pieces)
 
 -- all of them, with what stands before and behind them
@@ -215,31 +239,35 @@ missing_pieces =
     Markup tags.Ladders ∷ Words (codes "There was no memory for the records.")
     ∷ Markup tags.SectionEnd ∷ []
 
-module _ (port within : ℕ) (packets : List Recorded) where
-  abbrev pub IsJudgedEnd : BothMarks → Side → Bool → EndMark → List Piece → Type 0
-  IsJudgedEnd both side is_open mark pieces =
-      ((connection : Connection)
+module _ (port within : ℕ) (packets : List Recorded) (text : List ℕ) where
+  abbrev pub IsJudgedEnd : BothMarks → Side → Bool → ℕ → EndMark → List Piece → Type 0
+  IsJudgedEnd both side is_open count mark pieces =
+      ((connection : Connection) × (possible : List ℕ)
       × IsHeard port packets both.session both.opening.number connection
-      × IsLadder within connection both.session both.opening side is_open mark pieces)
+      × IsPossible text count possible
+      × IsLadder within connection both.session both.opening side is_open mark possible pieces)
       ⊎ (pieces ≡ lacking_pieces)
 
-  abbrev pub IsOfEnd : BothMarks → Side → Bool → Option EndMark → List Piece → Type 0
-  IsOfEnd both side is_open None pieces = pieces ≡ []
-  IsOfEnd both side is_open (Some mark) pieces = IsJudgedEnd both side is_open mark pieces
+  -- so many answers stand before its own
+  abbrev pub IsOfEnd : BothMarks → Side → Bool → ℕ → Option EndMark → List Piece → Type 0
+  IsOfEnd both side is_open count None pieces = pieces ≡ []
+  IsOfEnd both side is_open count (Some mark) pieces =
+      IsJudgedEnd both side is_open count mark pieces
 
-  abbrev pub AreOfBoth : BothMarks → List Piece → Type 0
-  AreOfBoth both pieces =
+  abbrev pub AreOfBoth : ℕ → BothMarks → List Piece → Type 0
+  AreOfBoth count both pieces =
       (opener other : List Piece)
-      × IsOfEnd both both.opening.opened_by (opener_is_open both) both.opener opener
-      × IsOfEnd both (other_side both.opening.opened_by) (other_is_open both) both.other other
+      × IsOfEnd both both.opening.opened_by (opener_is_open both) count both.opener opener
+      × IsOfEnd both (other_side both.opening.opened_by) (other_is_open both)
+      (behind_end count both.opener) both.other other
       × (pieces ≡ opener ++ other)
 
   -- of each of these connections
-  abbrev pub AreLadders : List BothMarks → List Piece → Type 0
-  AreLadders [] pieces = pieces ≡ []
-  AreLadders (both ∷ marks) pieces =
-      (one rest : List Piece) × AreOfBoth both one × AreLadders marks rest
-      × (pieces ≡ one ++ rest)
+  abbrev pub AreLadders : ℕ → List BothMarks → List Piece → Type 0
+  AreLadders count [] pieces = pieces ≡ []
+  AreLadders count (both ∷ marks) pieces =
+      (one rest : List Piece) × AreOfBoth count both one
+      × AreLadders (behind_both count both) marks rest × (pieces ≡ one ++ rest)
 
   -- ---- after the text
 
@@ -248,7 +276,7 @@ module _ (port within : ℕ) (packets : List Recorded) where
   AreBehind marks behind =
       ((list_any some_judged marks ≡ false) × (behind ≡ []))
       ⊎ (behind ≡ missing_pieces)
-      ⊎ ((ladders : List Piece) × AreLadders marks ladders
+      ⊎ ((ladders : List Piece) × AreLadders 0 marks ladders
       × (behind ≡ section_pieces ladders))
 
   -- they were put, and nothing that is printed as text

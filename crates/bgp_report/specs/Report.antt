@@ -85,4 +85,4 @@ pub record ChecksWithLadders {S : Type 0} (gives : S → S → List ℕ → Type
     pub checks : ChecksRecording gives has_ended TakesText source_failures never_fails options source
         source' [] text code cut_short firsts refusal nothing
     pub ladders : AreBehind options.port options.within checks.packets
-        (marks_of options.printing checks.blocks) behind
+        text (marks_of options.printing checks.blocks) behind

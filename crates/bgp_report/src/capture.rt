@@ -51,11 +51,11 @@ pub fn report_capture<A: Allocator + Copy, T: Tracker<A>, R: Source, W: Sink>(
         result.sessions result.fault result.nothing)) sink.old sink.new result.status }
 {
     let options = capture_options(options);
-    let mut report = Report::new(sink);
+    let mut report = Report::new(alloc, sink);
     report.put_head(name.as_bytes());
     let mut checked = check_capture::<A, T, R, _>(alloc, &options, source, &mut report);
     report.end();
-    let mut lines = report.into_lines();
+    let (mut lines, _) = report.into_parts();
     checked.status = handed_over(&mut lines, checked.status);
     // No effect: it ends the loan of the sink.
     lines.into_sink();

@@ -156,6 +156,7 @@ pub(crate) fn drawn_of<'a, A: Allocator + Copy>(
     let ladder = Ladder {
         column: column_of(both.opening.opened_by, side),
         first: connection.second,
+        micro: connection.micro,
         framings: made.framings,
         impossible: place_in(place, &made.recording.entries),
     };
@@ -200,20 +201,22 @@ fn put_cut_end<W: Sink>(lines: &mut Lines<'_, W>)
     put_tag(lines, Tag::DetailsEnd);
 }
 
-/// Puts a ladder.
+/// Puts a ladder. The lines of a text say what could have come.
 pub(crate) fn put_drawn<A: Allocator + Copy, W: Sink>(
     alloc: A,
     lines: &mut Lines<'_, W>,
     drawn: &Drawn<'_, A>,
     is_open: bool,
     order: Order,
+    possible: &[u8],
 )
-    ensures { PutsLadder drawn.now.ladder drawn.now.made.recording.entries.items (start_by is_open
-        drawn.now.ladder.column order drawn.now.names.summary.items drawn.now.names.left.items
-        drawn.now.names.right.items) lines.old lines.new }
+    ensures { PutsLadder drawn.now.ladder possible.now drawn.now.made.recording.entries.items
+        (start_by is_open drawn.now.ladder.column order drawn.now.names.summary.items
+        drawn.now.names.left.items drawn.now.names.right.items) lines.old lines.new }
 {
     put_start(lines, drawn, is_open, order);
-    match put_rows(alloc, lines, &drawn.ladder, &drawn.made.recording.entries) {
+    let entries = &drawn.made.recording.entries;
+    match put_rows(alloc, lines, &drawn.ladder, possible, entries) {
         Ok(()) => put_whole_end(lines),
         Err(AllocError) => put_cut_end(lines),
     }

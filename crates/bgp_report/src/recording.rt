@@ -3,6 +3,8 @@
 ghost use Rattle.std.specs.Prelude.{◌≡◌, ◌<◌, ◌^◌, [], List, None, ℕ};
 ghost use Rattle.bgp_check_tool.specs.Printed.{NoesAreTrue, PrintsTrue};
 ghost use Rattle.bgp_check_tool.specs.Printed.{UnfinishedAreTrue, YesesAreTrue};
+ghost use Rattle.bgp_html.specs.Noted.{nothing_noted};
+ghost use Rattle.bgp_html.specs.Notes.{noted_by};
 ghost use Rattle.bgp_verdict_lines.specs.declared.form.VerdictForm.TheVariants.{Text};
 ghost use Rattle.bgp_report.specs.Report.{Beside, ChecksWithLadders, PutsReport, Reports};
 ghost use Rattle.bgp_report.specs.Report.{TakesText};
@@ -43,12 +45,13 @@ fn put_report<'a, A: Allocator + Copy, T: Tracker<A>, R: Source, W: Sink>(
     options: &CheckOptions,
     name: &str,
     source: &mut R,
-    report: Report<'a, W>,
+    report: Report<'a, A, W>,
 ) -> (CheckedRecording, Lines<'a, W>)
     requires source { R.failures source.old < 2 ^ 63 }
     requires form { options.now.form ≡ Text }
     requires kind { report.kind ≡ None }
     requires front { report.front.items ≡ [] }
+    requires noted { noted_by report.notes ≡ nothing_noted }
     ensures no { PutsReport name.now (Beside (λ (text : List ℕ) (code : ℕ).
         PrintsTrue NoesAreTrue R.gives R.has_ended TakesText never_fails options.now
         source.old source.new [] text code result.0.cut_short)) result.0.status
@@ -78,16 +81,18 @@ fn put_report<'a, A: Allocator + Copy, T: Tracker<A>, R: Source, W: Sink>(
         &mut marks,
     );
     report.end();
-    let mut lines = report.into_lines();
-    put_ladders(alloc, &mut lines, options, &talks, &marks);
+    let (mut lines, notes) = report.into_parts();
+    put_ladders(alloc, &mut lines, options, &talks, &notes, &marks);
     (checked, lines)
 }
 
 /// Checks both ends of each connection in a recording, as [`check_recording`] does, and writes a
 /// report of what is printed with `--routes` and `--settings`, under this name of the file. After
 /// the text stand the records of each end that is judged and isn't left out, as a ladder: in the
-/// order of `bgp import`, with the record of its no marked. If memory is refused for a ladder, the
-/// report says so, and the status stays.
+/// order of `bgp import`, with the record of its no marked. The lines of its answer that say what
+/// could have come, or had to, stand there once more: behind that record, or behind all if there is
+/// no no. If memory is refused for a ladder or for these lines, the report says so, and the status
+/// stays.
 ///
 /// The status is that of what is printed, or 5 if the sink failed.
 ///
@@ -118,7 +123,7 @@ pub fn report_recording<A: Allocator + Copy, T: Tracker<A>, R: Source, W: Sink>(
         result.refusals.items result.refusal result.nothing) sink.old sink.new result.status }
 {
     let options = recording_options(options);
-    let report = Report::new(sink);
+    let report = Report::new(alloc, sink);
     let (mut checked, mut lines) = put_report::<A, T, R, W>(alloc, &options, name, source, report);
     checked.status = handed_over(&mut lines, checked.status);
     // No effect: it ends the loan of the sink.

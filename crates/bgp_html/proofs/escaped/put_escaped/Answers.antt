@@ -1,30 +1,7 @@
-use Rattle.std.proofs.Common.{◌≡◌, ◌++◌, [], refl, get_or}
-use Rattle.std.proofs.Math.ListN.{drop_of_length-le}
-use Rattle.std.proofs.lemmas.List.{get_or_default}
-use Rattle.std.specs.List.{flat_map}
-use Rattle.bgp_text.proofs.Joined.{one_more, none_left}
-use Rattle.bgp_text.proofs.Pieces.{Joins, and_then, nothing_yet}
-use Rattle.bgp_html.specs.Escaped.{escape_octet}
+use Rattle.std.proofs.Common.{ℕ, List, subst, sym}
+use Rattle.bgp_text.specs.Lines.{Writes}
 use Rattle.bgp_html.proofs.escaped.put_escaped.Goals as goal
 
-pub loop-octet-init : goal.loop-octet-init
-loop-octet-init g c =
-    ([], nothing_yet g.W.Sink g.met.W.Sink.nothing c.args.lines.now.outlet c.args.lines.now.held.items, refl)
-
-pub loop-octet-preserved : goal.loop-octet-preserved
-loop-octet-preserved g c =
-    let law : Joins g.W.Sink = record { joined = g.met.W.Sink.joined } in
-    let so_far = c.loop-octet.invariant in
-    let value = get_or c.args.text.now c.loop-octet.octet-index 0 in (
-      so_far.0 ++ escape_octet value,
-      and_then law so_far.1 c.put_octet.ensures,
-      one_more escape_octet so_far.0 (flat_map escape_octet c.args.text.now) c.args.text.now c.loop-octet.octet-index value c.loop-octet-test.true (get_or_default c.args.text.now c.loop-octet.octet-index 0 value c.loop-octet-test.true) so_far.2,
-    )
-
-pub returns : goal.returns
-returns g c =
-    let so_far = c.loop-octet.invariant in
-    let all : so_far.0 ≡ flat_map escape_octet c.args.text.now =
-    none_left escape_octet so_far.0 (flat_map escape_octet c.args.text.now) c.args.text.now c.loop-octet.octet-index (drop_of_length-le c.args.text.now c.loop-octet-test.false) so_far.2
-    in
-    rw all at so_far.1
+pub returns-then-are_plain : goal.returns-then-are_plain
+returns-then-are_plain g c =
+    subst (λ (t : List ℕ). Writes c.args.lines.now c.put.new.self t) (sym (c.are_plain.ensures c.if-are_plain.true)) c.put.ensures

@@ -20,7 +20,7 @@ returns-in-Ok g c = λ clock.
         made = is.made;
         is_whole = is_whole;
         rows = rows;
-        are_rows = subst (λ (l : Ladder). AreItsRows l drawn.made.recording.entries.items is_whole rows) is.is_ladder are;
+        are_rows = subst (λ (l : Ladder). AreItsRows l c.args.possible.now drawn.made.recording.entries.items is_whole rows) is.is_ladder are;
         is = ap (λ (ps : List Piece). ps ++ (rows ++ end_pieces is_whole))
             (start_is c.args.is_open c.args.mark.order both.session both.opening c.args.side drawn.ladder.column drawn.names.summary.items drawn.names.left.items drawn.names.right.items
             (ap (λ (l : Ladder). l.column) is.is_ladder) is.summary is.left is.right);

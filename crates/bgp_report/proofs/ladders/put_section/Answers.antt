@@ -7,7 +7,7 @@ use Rattle.bgp_report.proofs.Written.{ended}
 use Rattle.bgp_report.proofs.ladders.put_section.Goals as goal
 
 pub returns : goal.returns
-returns g c = λ port packets held.
+returns g c = λ port packets text held noted.
     let law : Joins g.W.Sink = record { joined = g.met.W.Sink.joined } in
-    let (pieces, are, put) = c.put_each.ensures port packets held in
+    let (pieces, are, put) = c.put_each.ensures port packets text held noted in
     (pieces, are, and_then law c.put_tag.ensures (together pieces (Markup tags.SectionEnd ∷ []) (and_then law put (ended c.put_tag-2.ensures))))

@@ -1,6 +1,6 @@
 use Rattle.std.proofs.Common.{rules}
-use Rattle.bgp_ladder.proofs.Plain.{one_before}
-use Rattle.bgp_ladder.proofs.cells.are_plain.Goals as goal
+use Rattle.bgp_html.proofs.Plain.{one_before}
+use Rattle.bgp_html.proofs.escaped.are_plain.Goals as goal
 
 pub loop-octet-preserved : goal.loop-octet-preserved
 loop-octet-preserved c =

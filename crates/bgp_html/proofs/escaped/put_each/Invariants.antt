@@ -2,7 +2,7 @@ use Rattle.std.proofs.Common.{◌≡◌, ◌++◌, List, ℕ, drop}
 use Rattle.std.specs.List.{flat_map}
 use Rattle.bgp_text.specs.Lines.{Writes}
 use Rattle.bgp_html.specs.Escaped.{escape_octet}
-use Rattle.bgp_html.proofs.escaped.put_escaped.Given as goal
+use Rattle.bgp_html.proofs.escaped.put_each.Given as goal
 
 -- what is written and what is left to write are the values
 abbrev pub invariant-loop-octet : goal.invariant-loop-octet

@@ -1,6 +1,6 @@
 use Rattle.std.proofs.Common.{◌≡◌, drop}
 use Rattle.bgp_html.specs.Escaped.{escaped}
-use Rattle.bgp_ladder.proofs.cells.are_plain.Given as goal
+use Rattle.bgp_html.proofs.escaped.are_plain.Given as goal
 
 -- those so far stand there as they are
 abbrev pub invariant-loop-octet : goal.invariant-loop-octet
