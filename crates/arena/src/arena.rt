@@ -18,6 +18,8 @@ pub struct Arena {
     rest: Cell<Option<Memory>>,
     // The blocks that came back, those of a size in one list.
     freed: [Cell<Freed>; LISTS],
+    // Whether there was no block for a request.
+    refused: Cell<bool>,
 }
 
 impl Arena {
@@ -26,11 +28,28 @@ impl Arena {
         Arena {
             rest: Cell::new(Some(memory)),
             freed: from_fn(|_| Cell::new(Freed::new())),
+            refused: Cell::new(false),
         }
     }
 
-    /// Takes a block for so many octets, if there is one.
+    /// Returns whether a request was refused.
+    pub fn has_refused(&self) -> bool {
+        self.refused.get()
+    }
+
+    /// Takes a block for so many octets, if there is one, and keeps in mind if there was none.
     fn take(&self, size: usize, align: usize) -> Option<Memory>
+        ensures { IfSome result (λ m. (m.size ≡ block_size size) × (size < 2 ^ 63) × (align ≤ 16)) }
+    {
+        let block = self.find(size, align);
+        if block.is_none() {
+            self.refused.set(true);
+        }
+        block
+    }
+
+    /// Takes a block for so many octets, if there is one.
+    fn find(&self, size: usize, align: usize) -> Option<Memory>
         ensures { IfSome result (λ m. (m.size ≡ block_size size) × (size < 2 ^ 63) × (align ≤ 16)) }
     {
         if align > UNIT || size > isize::MAX as usize {

@@ -71,7 +71,9 @@ fn memory_is_used_up(rt: HostRuntime) -> Result<(), Fail> {
     for _ in 0..9 {
         held.push(block(100)?)?;
     }
+    assert!(rt; !arena.has_refused());
     assert!(rt; block(100).is_err());
+    assert!(rt; arena.has_refused());
     assert!(rt; block(16).is_err());
     held.pop();
     assert!(rt; block(16).is_err());

@@ -1,4 +1,6 @@
 pub mod Ends
 pub mod Sentences
 pub mod Answers
+pub mod Reported
+pub mod MemVoice
 pub mod Speaking

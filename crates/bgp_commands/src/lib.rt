@@ -14,6 +14,9 @@
 //! answer.say(&mut voice);
 //! std::process::exit(answer.status());
 //! ```
+//!
+//! Whoever has a file's octets in memory, as a page in a browser, gets the report of `bgp check
+//! --html` by one call ([`report_over`]).
 #![tactic(auto)]
 
 mod answer;
@@ -24,6 +27,7 @@ mod ends;
 mod importing;
 mod listing;
 mod made_file;
+mod mem_voice;
 mod reporting;
 mod running;
 mod saying;
@@ -36,6 +40,8 @@ mod words;
 pub use answer::{Answer, Destination};
 pub use answering::{answer_to, file_of, reads_file, run_over};
 pub use ends::{Ends, Output};
+pub use mem_voice::MemVoice;
+pub use reporting::report_over;
 pub use running::run_words;
 pub use sentence::Sentence;
 pub use voice::Voice;

@@ -1,0 +1,217 @@
+// Compares what the page shows of files with what the program prints of them.
+//
+// usage: test.mjs PAGE MODULE PROGRAM LOOKS FILE ..
+//
+// First the worker's script runs the module here, then Chromium the whole page. The report, the
+// status and the sentences on standard error have to be the program's, octet for octet. LOOKS is a
+// folder for pictures. Prints the first difference, or ok.
+import { spawnSync } from "node:child_process";
+import fs from "node:fs";
+import os from "node:os";
+import path from "node:path";
+import { pathToFileURL } from "node:url";
+import { Browser } from "./browser.mjs";
+
+const [page, module, program, looks, ...files] = process.argv.slice(2);
+const here = path.dirname(new URL(import.meta.url).pathname);
+
+class Difference extends Error {}
+
+function same(what, got, wanted) {
+  if (Buffer.compare(Buffer.from(got), Buffer.from(wanted)) === 0) return;
+  throw new Difference(`${what}: ${got.length} octets, and ${wanted.length} of the program`);
+}
+
+function isSo(what, holds) {
+  if (!holds) throw new Difference(what);
+}
+
+// What the program says of a file, which it is given by its name alone.
+function native(file) {
+  const words = ["check", "--html", "--", path.basename(file)];
+  const ran = spawnSync(program, words, { cwd: path.dirname(file), maxBuffer: 1 << 30 });
+  return { status: ran.status, report: ran.stdout, notes: ran.stderr };
+}
+
+function compare(file, got, wanted) {
+  const name = JSON.stringify(path.basename(file));
+  same(`the report on ${name}`, got.report, wanted.report);
+  same(`standard error on ${name}`, got.notes, wanted.notes);
+  isSo(`the status on ${name}: ${got.status}, not ${wanted.status}`, got.status === wanted.status);
+}
+
+// ---- the module alone, by the worker's script
+
+async function startWorker() {
+  let answered;
+  const self = { postMessage: data => answered(data) };
+  const source = fs.readFileSync(path.join(here, "worker.js"), "utf8");
+  new Function("self", source)(self);
+  const ask = data => new Promise(done => {
+    answered = done;
+    self.onmessage({ data });
+  });
+  const { error } = await ask({ module: fs.readFileSync(module) });
+  if (error) throw new Error(error);
+  return ask;
+}
+
+async function testModule(wanted) {
+  const ask = await startWorker();
+  for (const file of files) {
+    const name = new TextEncoder().encode(path.basename(file));
+    const got = await ask({ file: fs.readFileSync(file), name, port: 179, within: 10 });
+    if (got.error) throw new Difference(`the module on ${file}: ${got.error}`);
+    compare(file, got, wanted.get(file));
+  }
+  const unnamed = await ask({ file: Buffer.alloc(0), name: Buffer.of(0xff), port: 179, within: 10 });
+  isSo("a name that isn't text has status 64", unnamed.status === 64 && unnamed.length === 0);
+  console.log(`the module: ${files.length} files`);
+}
+
+// ---- the page in Chromium
+
+// Waits until a file is shown, or a sentence says why not.
+const SHOWN = `new Promise(done => {
+  const timer = setInterval(() => {
+    const at = document.getElementById("status");
+    if (document.body.dataset.shown !== self.before || at.classList.contains("fault")) {
+      clearInterval(timer);
+      done({
+        said: at.textContent,
+        report: document.getElementById("report").srcdoc,
+        notes: document.getElementById("notes").textContent,
+        tags: [...document.getElementById("report").contentDocument.querySelectorAll("*")]
+          .map(it => it.localName),
+        pwned: self.pwned,
+      });
+    }
+  }, 10);
+})`;
+const TAGS = new Set(("html head meta title style body h1 h2 h3 p pre samp details summary table caption "
+  + "thead tbody tr th td div span section b").split(" "));
+
+async function shown(browser, chosen) {
+  await browser.value("self.before = document.body.dataset.shown, null");
+  await browser.choose("#file", [].concat(chosen));
+  return browser.value(SHOWN);
+}
+
+// Saves the report, and returns what was saved.
+async function saved(browser, folder) {
+  const done = new Promise(done => {
+    browser.wire.hearing.push(({ method, params }) => {
+      if (method === "Browser.downloadProgress" && params.state === "completed") done(params);
+    });
+  });
+  await browser.value("document.getElementById('save').click()");
+  await done;
+  const [name] = fs.readdirSync(folder);
+  const octets = fs.readFileSync(path.join(folder, name));
+  fs.rmSync(path.join(folder, name));
+  return octets;
+}
+
+async function testPage(wanted) {
+  const folder = fs.mkdtempSync(path.join(os.tmpdir(), "saved-"));
+  const browser = await Browser.start({ saved: folder });
+  try {
+    const url = pathToFileURL(page).href;
+    await browser.go(url);
+    for (const file of files) {
+      const got = await shown(browser, file);
+      const name = JSON.stringify(path.basename(file));
+      const { status, report, notes } = wanted.get(file);
+      same(`the page's report on ${name}`, got.report, report.toString());
+      same(`the page's notes on ${name}`, got.notes, notes.toString());
+      isSo(`the page's status on ${name}: ${got.said}`, got.said.includes(`(exit status ${status})`));
+      same(`what is saved of ${name}`, await saved(browser, folder), report);
+      isSo(`markup in the report on ${name}: ${got.tags}`, got.tags.every(it => TAGS.has(it)));
+      isSo(`a script ran in the report on ${name}`, got.pwned === undefined);
+    }
+    await testFrame(browser);
+    await testSeveral(browser);
+    const others = new Set(browser.requests.filter(it => it !== url && !it.startsWith("blob:")));
+    isSo(`the page asked for ${[...others]}`, others.size === 0);
+    isSo(`the console says ${browser.said}`, browser.said.length === 0);
+    console.log(`the page: ${files.length} files; requests: the page and its own blobs`);
+  } finally {
+    await browser.end();
+    fs.rmSync(folder, { recursive: true });
+  }
+}
+
+// Two files: the first is read, and a sentence says so.
+async function testSeveral(browser) {
+  await browser.value("document.getElementById('file').multiple = true, null");
+  const got = await shown(browser, files.slice(0, 2));
+  isSo(`two files: ${got.said}`, got.said.includes("this is the first"));
+}
+
+// Whatever stands in the frame, no script of it runs, and it loads nothing.
+async function testFrame(browser) {
+  const hostile = "<script>parent.pwned = 1</script><img src=https://192.0.2.1/x onerror='parent.pwned=1'>"
+    + "<meta http-equiv=refresh content='0;url=https://192.0.2.1/'><iframe src=https://192.0.2.1/></iframe>";
+  const count = browser.requests.length;
+  await browser.value(`new Promise(done => {
+    const frame = document.getElementById("report");
+    frame.addEventListener("load", () => setTimeout(done, 500), { once: true });
+    frame.srcdoc = ${JSON.stringify(hostile)};
+  })`);
+  isSo("a script ran in the frame", await browser.value("self.pwned") === undefined);
+  isSo("the frame loads something", browser.requests.length === count);
+  browser.said.length = 0;
+}
+
+// A browser without 64-bit memories, and one without WebAssembly: a sentence, and no chooser.
+async function testLacking() {
+  for (const lacks of ["WebAssembly.validate = () => false", "delete self.WebAssembly"]) {
+    const browser = await Browser.start();
+    try {
+      await browser.own("Page.addScriptToEvaluateOnNewDocument", { source: lacks });
+      await browser.go(pathToFileURL(page).href);
+      const said = await browser.value("document.getElementById('status').textContent");
+      isSo(`a browser that lacks something: ${said}`, said.includes("bgp check --html FILE"));
+      isSo("the chooser is off", await browser.value("document.getElementById('file').disabled"));
+    } finally {
+      await browser.end();
+    }
+  }
+  console.log("the page in a browser that lacks something");
+}
+
+// ---- pictures
+
+async function makePictures() {
+  const browser = await Browser.start();
+  const file = files.find(it => it.endsWith("bad-as-bird.pcap")) ?? files[0];
+  try {
+    await browser.go(pathToFileURL(page).href);
+    for (const [name, width, dark] of [["light", 1280, false], ["dark", 1280, true], ["narrow", 400, false]]) {
+      await browser.width(width);
+      await browser.dark(dark);
+      if (name === "light") await browser.look(path.join(looks, "empty.png"));
+      await shown(browser, file);
+      await browser.value("new Promise(done => setTimeout(done, 300))");
+      await browser.look(path.join(looks, `${name}.png`));
+    }
+    await browser.width(1280);
+    await browser.printed(path.join(looks, "printed.pdf"));
+  } finally {
+    await browser.end();
+  }
+  console.log(`pictures in ${looks}`);
+}
+
+try {
+  const wanted = new Map(files.map(it => [it, native(it)]));
+  await testModule(wanted);
+  await testPage(wanted);
+  await testLacking();
+  await makePictures();
+  console.log("ok");
+} catch (error) {
+  if (!(error instanceof Difference)) throw error;
+  console.log(`DIFFERENT: ${error.message}`);
+  process.exitCode = 1;
+}
