@@ -24,13 +24,13 @@ module _ (config : Config) (wanted : Import) (packets : List Recorded) (segments
 
   -- beside a no
   pub no_nothing : (count : ℕ) → IsNothing config wanted packets segments number (No count) → IsOverAll config wanted packets segments number over.TooMany
-  no_nothing count (inl yes) = absurd (let never = yes in cc)
+  no_nothing count (inl same) = absurd (let never = same in cc)
   no_nothing count (inr (inl many)) = many
   no_nothing count (inr (inr (unfinished, is))) = absurd (let never = unfinished in cc)
 
   -- beside what is unfinished
   pub unfinished_nothing : IsNothing config wanted packets segments number Unfinished
       → IsOverAll config wanted packets segments number over.TooMany ⊎ IsOverAll config wanted packets segments number over.Unfinished
-  unfinished_nothing (inl yes) = absurd (let never = yes in cc)
+  unfinished_nothing (inl same) = absurd (let never = same in cc)
   unfinished_nothing (inr (inl many)) = inl many
   unfinished_nothing (inr (inr (same, is))) = inr is

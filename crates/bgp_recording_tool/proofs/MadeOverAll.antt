@@ -54,10 +54,10 @@ yes_shown config records (e ∷ ends) is = (e, is.1.each.0)
 pub found_or_many : (config : Config) (within : ℕ) (framings : Framings) (connection : Connection) → IsClocked connection
     → IsOverOrders config within framings connection over.Yes → NoneIsFoundOver config within framings connection
     → IsOverOrders config within framings connection over.TooMany
-found_or_many config within framings connection clocked yes (inr many) = many
-found_or_many config within framings connection clocked yes (inl none) =
-    absurd (none.none yes.holds.0
-    (whole_there config within framings connection connection yes.exchange none.exchange yes.holds.0 (same_as_itself connection) clocked yes.tells none.tells yes.holds.1))
+found_or_many config within framings connection clocked some (inr many) = many
+found_or_many config within framings connection clocked some (inl none) =
+    absurd (none.none some.holds.0
+    (whole_there config within framings connection connection some.exchange none.exchange some.holds.0 (same_as_itself connection) clocked some.tells none.tells some.holds.1))
 
 -- ---- the made records are those of a way
 
@@ -128,10 +128,10 @@ yes_over config within framings connection entries received sent ends recorded i
 unfinished_no_no : (config : Config) (within : ℕ) (framings : Framings) (one other : Connection) (entries : List Entry) (received sent : Unshown) (u : Unexplained)
     → TellTheSame one other → IsClocked one → IsRecorded framings within one entries received sent → HasVerdict config (records_of entries) Unfinished
     → IsOverOrders config within framings other (over.No u) → ⊥
-unfinished_no_no config within framings one other entries received sent u same clocked recorded is no =
+unfinished_no_no config within framings one other entries received sent u same clocked recorded is denied =
     let made = made_way within framings one entries received sent recorded in
-    let exchange = no.exchange in
-    let (front, is_way, records) = way_there within framings one other made.exchange exchange made.start made.events same clocked made.tells no.tells made.way in
+    let exchange = denied.exchange in
+    let (front, is_way, records) = way_there within framings one other made.exchange exchange made.start made.events same clocked made.tells denied.tells made.way in
     let all : IsExplained config within exchange (length exchange.sent.now) = record {
       start = made.start;
       front = front;
@@ -140,14 +140,14 @@ unfinished_no_no config within framings one other entries received sent u same c
       counts = ap length is_way.allowed.of_sent;
       begins = subst (λ (rs : List ShownRecord). Begins config rs) (made.records ∙ records) is.0;
     } in
-    let few : u.before < length exchange.sent.now = no.holds.0.0 in
-    no.holds.0.2 (at_most_explained config within exchange (u.before + 1) (length exchange.sent.now) (omega (arith, few)) all)
+    let few : u.before < length exchange.sent.now = denied.holds.0.0 in
+    denied.holds.0.2 (at_most_explained config within exchange (u.before + 1) (length exchange.sent.now) (omega (arith, few)) all)
 
 -- so a no over all orders is one of theirs, if they are no yes
 pub no_over : (config : Config) (within : ℕ) (framings : Framings) (one other : Connection) (entries : List Entry) (received sent : Unshown) (verdict : VerdictValue) (u : Unexplained)
     → TellTheSame one other → IsClocked one → IsRecorded framings within one entries received sent → HasVerdict config (records_of entries) verdict → IsNoYes verdict
     → IsOverOrders config within framings other (over.No u) → IsNo verdict
-no_over config within framings one other entries received sent (Yes ends) u same clocked recorded is other_than no = absurd (other_than ends refl)
-no_over config within framings one other entries received sent (No count) u same clocked recorded is other_than no = (count, refl)
-no_over config within framings one other entries received sent Unfinished u same clocked recorded is other_than no =
-    absurd (unfinished_no_no config within framings one other entries received sent u same clocked recorded is no)
+no_over config within framings one other entries received sent (Yes ends) u same clocked recorded is other_than denied = absurd (other_than ends refl)
+no_over config within framings one other entries received sent (No count) u same clocked recorded is other_than denied = (count, refl)
+no_over config within framings one other entries received sent Unfinished u same clocked recorded is other_than denied =
+    absurd (unfinished_no_no config within framings one other entries received sent u same clocked recorded is denied)

@@ -10,6 +10,6 @@ pub returns-in-None-clause-found : goal.returns-in-None-clause-found
 returns-in-None-clause-found g c = λ clocked.
     let config = c.args.config.now in
     let connection = c.args.connection.now in
-    let yes = subst (λ (o : OverOrders). IsOverOrders config c.args.within c.args.framings connection o) c.in-Yes.is (c.in_ok-verdict_over_orders.ensures clocked) in
-    inl (found_or_many config c.args.within c.args.framings connection clocked yes
+    let whole = subst (λ (o : OverOrders). IsOverOrders config c.args.within c.args.framings connection o) c.in-Yes.is (c.in_ok-verdict_over_orders.ensures clocked) in
+    inl (found_or_many config c.args.within c.args.framings connection clocked whole
     (none_is c.in_ok-another_yes.field-0 (NoneIsFoundOver config c.args.within c.args.framings connection) c.in-None.is c.in_ok-another_yes.ensures.none))
