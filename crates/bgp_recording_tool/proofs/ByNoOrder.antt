@@ -13,8 +13,9 @@ use Rattle.bgp_import.specs.Refusals.{refusal_line}
 use Rattle.bgp_import.specs.declared.importing.Import.{Import}
 use Rattle.bgp_import.specs.declared.refusal.Refusal.{Refusal}
 use Rattle.bgp_orders.specs.Connections.{NoOrderExplains}
+use Rattle.bgp_orders.specs.declared.connection.OverOrders.TheVariants as over
 use Rattle.bgp_orders.specs.declared.connection.Unexplained.{Unexplained}
-use Rattle.bgp_recording_tool.specs.Connections.{IsNoOrder, IsTold}
+use Rattle.bgp_recording_tool.specs.Connections.{IsOverAll, IsTold}
 use Rattle.bgp_recording_tool.specs.Headline.{IsByNoOrder, NoAtPacketIsByNoOrder}
 use Rattle.bgp_recording_tool.specs.Told.{Told, Judged, NoOrder, InAnotherOrder, Refused, UnfinishedOverAll, no_order_line, told_status, told_text}
 use Rattle.bgp_recording_tool.specs.declared.remark.Remark.{Remark}
@@ -46,7 +47,7 @@ no_refusal refusal rest e =
 -- ---- and what it says
 
 module _ (law : NoOrderExplains) (config : Config) (report : Report) (wanted : Import) (packets : List Recorded) (segments : List Segment) (number named : Option ℕ) where
-  says_so : (u : Unexplained) → IsNoOrder config wanted packets segments number u → IsByNoOrder config wanted packets segments number u
+  says_so : (u : Unexplained) → IsOverAll config wanted packets segments number (over.No u) → IsByNoOrder config wanted packets segments number u
   says_so u is = record {
     connection = is.connection;
     chosen = is.chosen;

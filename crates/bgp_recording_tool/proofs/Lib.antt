@@ -4,7 +4,11 @@ pub mod Judgings
 pub mod Numbers
 pub mod Outcomes
 pub mod Puttings
+mod SameWays
+mod MadeOverAll
+mod Answered
 mod Searchings
+mod FoundNothing
 mod SomeRemarks
 pub mod Statuses
 pub mod Texts
@@ -12,6 +16,8 @@ pub mod Tellings
 mod ToldAlike
 mod ByNoOrder
 mod UnfinishedSo
+mod AsMade
+mod OverAll
 pub mod SameVerdict
 mod OneReason
 mod YesShown

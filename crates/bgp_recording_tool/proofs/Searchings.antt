@@ -1,5 +1,5 @@
 -- What the search of all orders finds, of a connection that is chosen; and what is put of it.
-use Rattle.std.proofs.Common.{◌≡◌, ℕ, List, Option, Some, IfOk, IfSome, Result, Ok, Err, inl, inr, length, reverse, sym, subst}
+use Rattle.std.proofs.Common.{◌≡◌, ℕ, List, Option, None, Some, IfNone, IfOk, IfSome, Result, Ok, Err, inl, inr, length, reverse, sym, subst}
 use Rattle.packets.specs.Packet.{Recorded}
 use Rattle.streams.specs.Choice.{IsAnswered}
 use Rattle.streams.specs.Connections.{numbered}
@@ -18,23 +18,37 @@ use Rattle.bgp_explain.specs.Text.{CanBePutOf}
 use Rattle.bgp_explain.specs.declared.explained.Reason.{Reason}
 use Rattle.bgp_explain.specs.declared.report.Report.{Report}
 use Rattle.bgp_import.specs.declared.importing.Import.{Import}
-use Rattle.bgp_recording_tool.specs.Connections.{IsFound, IsFoundOver, IsInstead, IsInsteadOver}
+use Rattle.bgp_import.specs.Selecting.{AreTaken}
+use Rattle.bgp_import.proofs.InOrder.{in_order}
+use Rattle.bgp_import.proofs.Telling.{is_clocked}
+use Rattle.bgp_ended.proofs.OneConnection.{same_answer}
+use Rattle.bgp_recording_tool.specs.Connections.{IsFound, IsFoundOver, IsInstead, IsInsteadOver, IsMadeVerdict}
 use Rattle.bgp_recording_tool.specs.Found.{Found, Nothing, ByNone, ByAnother, ByAll, IsNoYes, IsSought, IsYes, entries_of, found_of}
 use Rattle.bgp_recording_tool.specs.declared.orders.Searched.{Searched}
 use Rattle.bgp_recording_tool.specs.declared.orders.Searched.TheVariants as searches
+use Rattle.bgp_recording_tool.proofs.MadeOverAll.{no_over}
 
--- what is found over all orders of the connection is found of the chosen one
-pub found_so : {X : Type 0} (config : Config) (wanted : Import) (packets : List Recorded) (segments : List Segment) (number : Option ℕ) (connection : Connection) (verdict : VerdictValue)
-    (searched : Searched X) → IsAnswered number (length packets) (numbered (reverse segments)) connection → IsNoYes verdict → IsSought config verdict searched
+-- what is found over all orders of the connection is found of the chosen one, of which these entries are made
+pub found_so : {X : Type 0} (config : Config) (wanted : Import) (packets : List Recorded) (segments : List Segment) (number : Option ℕ) (connection : Connection) (made : List Entry)
+    (verdict : VerdictValue) (searched : Searched X) → AreTaken wanted.selection 0 packets segments → IsMadeVerdict config wanted packets segments number made verdict
+    → IsAnswered number (length packets) (numbered (reverse segments)) connection → IsNoYes verdict → IsSought config verdict searched
     → IsFoundOver config wanted.within (framings_of wanted.selection.session) connection verdict (entries_of searched) (found_of searched)
     → IsFound config wanted packets segments number verdict (entries_of searched) (found_of searched)
-found_so config wanted packets segments number connection verdict searches.Nothing answered other sought over =
-    inr (inl (record { connection = connection; chosen = answered; over_all = over }))
-found_so config wanted packets segments number connection verdict (searches.NoOrder u instead) answered other sought over =
-    (sought, record { connection = connection; chosen = answered; over_all = over })
-found_so config wanted packets segments number connection verdict (searches.Another another) answered other sought over =
+found_so config wanted packets segments number connection made verdict searches.Nothing taken is answered other sought (inl many) =
+    inr (inl (record { connection = connection; chosen = answered; over_all = many }))
+found_so config wanted packets segments number connection made verdict searches.Nothing taken is answered other sought (inr (same, unfinished)) =
+    inr (inr (same, record { connection = connection; chosen = answered; over_all = unfinished }))
+found_so config wanted packets segments number connection made verdict (searches.NoOrder u instead) taken is answered other sought over =
+    let connections = numbered (reverse segments) in
+    let same = same_answer number (length packets) connections is.connection connection is.chosen answered in
+    let clocked = is_clocked (reverse segments) number (length packets) is.connection (in_order wanted.selection packets segments taken) is.chosen in (
+      no_over config wanted.within (framings_of wanted.selection.session) is.connection connection made is.notes.received is.notes.sent verdict u same clocked is.made.recorded.told is.is other
+          over,
+      record { connection = connection; chosen = answered; over_all = over },
+    )
+found_so config wanted packets segments number connection made verdict (searches.Another another) taken is answered other sought over =
     (other, record { connection = connection; chosen = answered; yes = over })
-found_so config wanted packets segments number connection verdict searches.Unfinished answered other sought over =
+found_so config wanted packets segments number connection made verdict searches.Unfinished taken is answered other sought over =
     (sought, record { connection = connection; chosen = answered; over_all = over })
 
 -- and so is what its reason says of other orders
@@ -63,3 +77,7 @@ both_ok (Err e) P Q H f p q = tt
 -- what holds of the value that there is
 pub some_is : {X : Type 0} (o : Option X) (x : X) (P : X → Type 0) → o ≡ Some x → IfSome o P → P x
 some_is o x P is h = rw is at h
+
+-- what holds if there is none
+pub none_is : {X : Type 0} (o : Option X) (P : Type 0) → o ≡ None → IfNone o P → P
+none_is o P is h = rw is at h

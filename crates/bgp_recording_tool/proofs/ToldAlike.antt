@@ -1,14 +1,13 @@
 -- What is told of a connection is what the capture reads as that is imported of it.
-use Rattle.std.proofs.Common.{◌≡◌, ◌∙◌, ℕ, Bool, true, false, List, [], ◌∷◌, Option, None, Some, Result, Ok, Err, length, reverse, nat_lt, if◌then◌else◌, refl, sym, ap, subst, inl, inr}
+use Rattle.std.proofs.Common.{◌≡◌, ◌∙◌, ℕ, Bool, true, false, List, [], ◌∷◌, Option, None, Some, length, reverse, nat_lt, if◌then◌else◌, refl, sym, ap, subst, inl, inr}
 use Rattle.std.specs.List.{AllByRecursion}
 use Rattle.bgp_prefix.specs.Shown.{ShownRecord, Received, Sent, Changed}
 use Rattle.bgp_prefix.specs.declared.session.Session.{Session}
 use Rattle.bgp_prefix.specs.declared.session.RouteRefresh.TheVariants as refreshes
-use Rattle.streams.specs.Choice.{IsAnswered, IsRefused, refusal_of, numbered_one}
+use Rattle.streams.specs.Choice.{IsAnswered}
 use Rattle.streams.specs.Connections.{numbered}
 use Rattle.streams.specs.Passed.{Segment}
 use Rattle.streams.specs.declared.connection.Connection.{Connection}
-use Rattle.streams.specs.declared.fault.Fault.{Fault}
 use Rattle.streams.specs.declared.passed.Side.{Side}
 use Rattle.streams.specs.declared.passed.Side.TheVariants.{Local, Peer}
 use Rattle.mrt.specs.Reader.{shown_of}
@@ -24,7 +23,6 @@ use Rattle.bgp_import.specs.Importing.{IsMadeOf}
 use Rattle.bgp_import.specs.Selecting.{AreTaken}
 use Rattle.bgp_import.specs.declared.importing.Import.{Import}
 use Rattle.bgp_import.specs.declared.note.Notes.{Notes}
-use Rattle.bgp_import.specs.Gathers.{IsNotChosen}
 use Rattle.bgp_import.specs.Once.{IsMadeOfPackets, MeanTheSame}
 use Rattle.bgp_import.specs.Refreshes.{IsOne, IsRefreshPacket, IsRefreshIn, refresh_at, earlier}
 use Rattle.bgp_import.specs.Refusals.{refusal_number, refusal_packet}
@@ -34,6 +32,7 @@ use Rattle.bgp_recording_tool.specs.Connections.{IsJudged}
 use Rattle.bgp_recording_tool.specs.Found.{Found, Nothing, ByNone, ByAnother, ByAll}
 use Rattle.bgp_recording_tool.specs.Told.{Judged, NoOrder, InAnotherOrder, Refused, UnfinishedOverAll}
 use Rattle.bgp_recording_tool.specs.declared.remark.Remark.{Remark}
+use Rattle.bgp_recording_tool.proofs.Answered.{not_unchosen}
 use Rattle.bgp_recording_tool.proofs.FirstRefresh.{first_or_none}
 
 -- ---- a ROUTE-REFRESH
@@ -80,31 +79,6 @@ none_there entries received_rest sent_rest refusal (received, sent, theirs, ours
 
 some_first : (records : List ShownRecord) → (AllByRecursion IsNoRefresh records → ⊥) → (front : List ShownRecord) × IsFirstRefresh records front
 some_first records not = elim (first_or_none records) [ inl none ↦ absurd (not none) | inr first ↦ first ]
-
--- ---- a connection that is answered isn't refused
-
-abbrev chosen_one : ℕ → Result ℕ Fault
-chosen_one number = Ok number
-
-one_number : (a b : ℕ) → chosen_one a ≡ chosen_one b → a ≡ b
-one_number a b e = cc
-
-no_error : (number : ℕ) (fault : Fault) → Err fault ≡ chosen_one number → ⊥
-no_error number fault e = absurd (cc)
-
-no_fault : (fault : Fault) → Some fault ≡ None → ⊥
-no_fault fault e = absurd (cc)
-
-not_both : (number : Option ℕ) (count : ℕ) (connections : List (List Segment)) (connection : Connection) (fault : Fault) → IsAnswered number count connections connection
-    → IsRefused number count connections fault → ⊥
-not_both number count connections connection fault answered (inl err) = no_error connection.number fault (sym err ∙ answered.chosen)
-not_both number count connections connection fault answered (inr (n, ok, some)) =
-    let same : connection.number ≡ n = one_number connection.number n (sym answered.chosen ∙ ok) in
-    no_fault fault (sym some ∙ ap (λ (m : ℕ). refusal_of (numbered_one connections m)) (sym same) ∙ answered.fine)
-
-not_unchosen : (number : Option ℕ) (count : ℕ) (segments : List Segment) (connection : Connection) (refusal : Refusal) → IsAnswered number count (numbered segments) connection
-    → IsNotChosen number count segments refusal → ⊥
-not_unchosen number count segments connection refusal answered not = not_both number count (numbered segments) connection not.fault answered not.refused
 
 -- ---- what is told
 

@@ -7,15 +7,18 @@ use Rattle.packets.specs.Packet.{Recorded}
 use Rattle.streams.specs.Passed.{Segment}
 use Rattle.bgp_open.specs.declared.config.Config.{Config}
 use Rattle.bgp_judge.specs.Verdict.{Yes, No, Unfinished}
+use Rattle.bgp_orders.specs.declared.connection.OverOrders.TheVariants as over
 use Rattle.bgp_tool.specs.VerdictText.{end_text, no_line}
 use Rattle.bgp_explain.specs.declared.report.Report.{Report}
 use Rattle.bgp_import.specs.Refusals.{refusal_line}
 use Rattle.bgp_import.specs.declared.importing.Import.{Import}
 use Rattle.bgp_import.specs.declared.refusal.Refusal.{Refusal}
-use Rattle.bgp_recording_tool.specs.Connections.{IsTold}
-use Rattle.bgp_recording_tool.specs.Headline.{IsUnfinishedAsMade, IsUnfinishedByEach, UnfinishedIsSo}
+use Rattle.bgp_recording_tool.specs.Connections.{IsOverAll, IsTold}
+use Rattle.bgp_recording_tool.specs.Found.{Nothing}
+use Rattle.bgp_recording_tool.specs.Headline.{IsAsMade, IsUnfinishedByEach, UnfinishedIsSo}
 use Rattle.bgp_recording_tool.specs.Told.{Told, Judged, NoOrder, InAnotherOrder, Refused, UnfinishedOverAll, no_order_line, told_status, told_text}
 use Rattle.bgp_recording_tool.specs.declared.remark.Remark.{Remark}
+use Rattle.bgp_recording_tool.proofs.FoundNothing.{made_verdict, unfinished_nothing}
 
 -- ---- no other text begins so
 
@@ -44,39 +47,32 @@ not_refusal refusal rest e = apart 114 117 refl (first_is _ _ e)
 -- ---- and what it says
 
 module _ (config : Config) (report : Report) (wanted : Import) (packets : List Recorded) (segments : List Segment) (number named : Option ℕ) where
+  by_each : IsOverAll config wanted packets segments number over.Unfinished → IsUnfinishedByEach config wanted packets segments number
+  by_each found = record {
+    connection = found.connection;
+    chosen = found.chosen;
+    exchange = found.over_all.exchange;
+    tells = found.over_all.tells;
+    explained = found.over_all.holds.0;
+    none = found.over_all.holds.1;
+  }
+
   by_told : (text : List ℕ) (status : ℕ) (remarks : List Remark) (rest : List ℕ) (told : Told) → IsTold config report wanted packets segments number named told remarks
       → text ≡ told_text told → status ≡ told_status told → text ≡ codes "unfinished" ++ rest
-      → (status ≡ 2) × (IsUnfinishedAsMade config wanted packets segments number ⊎ IsUnfinishedByEach config wanted packets segments number)
+      → (status ≡ 2) × (IsAsMade config wanted packets segments number Unfinished ⊎ IsUnfinishedByEach config wanted packets segments number)
   by_told text status remarks rest (Judged (Yes ends) more) is prints tells begins = absurd (not_yes (flat_map end_text ends ++ more) rest (sym prints ∙ begins))
   by_told text status remarks rest (Judged (No count) more) is prints tells begins = absurd (not_record count more rest (sym prints ∙ begins))
   by_told text status remarks rest (Judged Unfinished more) is prints tells begins =
-      let judged = is.judged in (
-        tells,
-        inl (record {
-          connection = judged.connection;
-          chosen = judged.chosen;
-          entries = judged.entries;
-          notes = judged.notes;
-          made = judged.made;
-          is = judged.is;
-          searched = judged.is_found;
-        }),
-      )
+      let judged = is.judged in
+      elim (unfinished_nothing config wanted packets segments number judged.is_found) [
+        | inl many ↦ (tells, inl (record { entries = judged.entries; made = made_verdict config wanted packets segments number named Unfinished Nothing remarks judged; many = many }))
+        | inr found ↦ (tells, inr (by_each found))
+      ]
   by_told text status remarks rest (Refused refusal) is prints tells begins = absurd (not_refusal refusal rest (sym prints ∙ begins))
   by_told text status remarks rest (InAnotherOrder ends more) is prints tells begins = absurd (not_yes (flat_map end_text ends ++ more) rest (sym prints ∙ begins))
   by_told text status remarks rest (NoOrder u more) is prints tells begins = absurd (not_packet u.packet more rest (sym prints ∙ begins))
   by_told text status remarks rest (UnfinishedOverAll more) (verdict, reported) prints tells begins =
-      let found = reported.judged.is_found.1 in (
-        tells,
-        inr (record {
-          connection = found.connection;
-          chosen = found.chosen;
-          exchange = found.over_all.exchange;
-          tells = found.over_all.tells;
-          explained = found.over_all.holds.0;
-          none = found.over_all.holds.1;
-        }),
-      )
+      (tells, inr (by_each reported.judged.is_found.1))
 
 pub unfinished_is_so : UnfinishedIsSo
 unfinished_is_so config report wanted packets segments number named text status remarks rest told begins =

@@ -20,10 +20,9 @@ use Rattle.bgp_recording.specs.declared.framing.Unshown.{Unshown}
 use Rattle.bgp_machine.specs.Run.{End}
 use Rattle.bgp_orders.specs.Connections.{IsOverOrders}
 use Rattle.bgp_orders.specs.WholeWays.{AreOfAWayOver}
+use Rattle.bgp_orders.specs.declared.connection.OverOrders.{OverOrders}
 use Rattle.bgp_orders.specs.declared.connection.OverOrders.TheVariants as over
-use Rattle.bgp_orders.specs.declared.connection.Unexplained.{Unexplained}
 use Rattle.bgp_instead.specs.OtherOrders.{AreOtherOrders}
-use Rattle.bgp_import.specs.Gathers.{IsNotChosen}
 use Rattle.bgp_import.specs.Importing.{IsMadeOf}
 use Rattle.bgp_import.specs.ListText.{opening_text}
 use Rattle.bgp_import.specs.Making.{IsTurnedDown}
@@ -79,15 +78,11 @@ pub record IsYesOver (config : Config) (within : ℕ) (framings : Framings)
 
 -- All orders of the connection's messages that the packets allow say nothing that is told in place
 -- of this verdict, which is no yes: it isn't known what they say, for too many nodes; or the
--- verdict is unfinished, and no order is whole; or some order is whole. In this last case the
--- records of such an order are judged, and nothing is found only if that is no yes.
+-- verdict is unfinished, and so it is over all of them.
 abbrev pub IsNothingOver : Config → ℕ → Framings → Connection → VerdictValue → Type 0
 IsNothingOver config within framings connection verdict =
     IsOverOrders config within framings connection over.TooMany
-    ⊎ ((verdict ≡ Unfinished)
-    × (IsOverOrders config within framings connection over.Unfinished
-    ⊎ ((u : Unexplained) × IsOverOrders config within framings connection (over.No u))))
-    ⊎ IsOverOrders config within framings connection over.Yes
+    ⊎ ((verdict ≡ Unfinished) × IsOverOrders config within framings connection over.Unfinished)
 
 -- This is found over all orders of the connection's messages that the packets allow. If another
 -- order is a yes, these are its entries.
@@ -121,13 +116,24 @@ IsInsteadOver report config within framings connection made verdict found = Unit
 -- The session's packets have these segments, none of which is refused.
 module _ (config : Config) (wanted : Import) (packets : List Recorded) (segments : List Segment)
   where
-    -- This sent message of the connection with this number, or of the only one, is the first that
-    -- no order explains that the packets allow within the patience.
-    pub record IsNoOrder (number : Option ℕ) (u : Unexplained) : Type 0 where
+    -- These entries are made of the connection with this number, or of the only one, and this is
+    -- the verdict on their records.
+    pub record IsMadeVerdict (number : Option ℕ) (entries : List Entry) (verdict : VerdictValue)
+        : Type 0 where
+      pub connection : Connection
+      pub notes : Notes
+      pub chosen : IsAnswered number (length packets) (numbered (reverse segments)) connection
+      pub made : IsMadeOf wanted connection entries notes
+      pub is : HasVerdict config (records_of entries) verdict
+
+    -- This is the verdict over all orders of the messages of the connection with this number, or of
+    -- the only one, that the packets allow within the patience; or it isn't known, for too many
+    -- nodes.
+    pub record IsOverAll (number : Option ℕ) (verdict : OverOrders) : Type 0 where
       pub connection : Connection
       pub chosen : IsAnswered number (length packets) (numbered (reverse segments)) connection
       pub over_all : IsOverOrders config wanted.within (framings_of wanted.selection.session)
-          connection (over.No u)
+          connection verdict
 
     -- These entries are those of an order of the connection with this number, or of the only one,
     -- that the packets allow within the patience. A yes with these ends is the verdict on their
@@ -139,27 +145,13 @@ module _ (config : Config) (wanted : Import) (packets : List Recorded) (segments
       pub yes : IsYesOver config wanted.within (framings_of wanted.selection.session) connection
           entries ends
 
-    -- Over all orders of the connection with this number, or of the only one, that the packets
-    -- allow within the patience it is unfinished.
-    pub record IsUnfinishedByAll (number : Option ℕ) : Type 0 where
-      pub connection : Connection
-      pub chosen : IsAnswered number (length packets) (numbered (reverse segments)) connection
-      pub over_all : IsOverOrders config wanted.within (framings_of wanted.selection.session)
-          connection over.Unfinished
-
-    -- The connection with this number, or the only one, isn't searched for anything else, since
-    -- this verdict on its made records is a yes. Or all of its orders that the packets allow within
-    -- the patience say nothing else. Or there is no such connection.
-    pub record IsNothingOf (number : Option ℕ) (verdict : VerdictValue) : Type 0 where
-      pub connection : Connection
-      pub chosen : IsAnswered number (length packets) (numbered (reverse segments)) connection
-      pub over_all : IsNothingOver config wanted.within (framings_of wanted.selection.session)
-          connection verdict
-
+    -- Nothing is found that is told in place of this verdict on the made records: it is a yes; or
+    -- it isn't known what all orders say, for too many nodes; or it is unfinished, and so it is
+    -- over all orders.
     abbrev pub IsNothing : Option ℕ → VerdictValue → Type 0
     IsNothing number verdict =
-        IsYes verdict ⊎ IsNothingOf number verdict
-        ⊎ ((refusal : Refusal) × IsNotChosen number (length packets) (reverse segments) refusal)
+        IsYes verdict ⊎ IsOverAll number over.TooMany
+        ⊎ ((verdict ≡ Unfinished) × IsOverAll number over.Unfinished)
 
     -- This is what the reason of that connection's no says of other orders, where no order explains
     -- the sent message behind so many. These are its made entries.
@@ -180,10 +172,10 @@ module _ (config : Config) (wanted : Import) (packets : List Recorded) (segments
     -- a yes, these are its entries.
     abbrev pub IsFound : Option ℕ → VerdictValue → List Entry → Found → Type 0
     IsFound number verdict others Nothing = IsNothing number verdict
-    IsFound number verdict others (ByNone u instead) = IsNo verdict × IsNoOrder number u
+    IsFound number verdict others (ByNone u instead) = IsNo verdict × IsOverAll number (over.No u)
     IsFound number verdict others (ByAnother ends) =
         IsNoYes verdict × IsYesOfAnother number others ends
-    IsFound number verdict others ByAll = IsNo verdict × IsUnfinishedByAll number
+    IsFound number verdict others ByAll = IsNo verdict × IsOverAll number over.Unfinished
 
     -- These entries are made of the connection with this number, or of the only one, and this is
     -- the verdict on their records. None of them is a ROUTE-REFRESH, where the session refuses

@@ -58,11 +58,11 @@ entries_of (searches.NoOrder u instead) = []
 entries_of (searches.Another another) = another.recording.entries.items
 entries_of searches.Unfinished = []
 
--- A no over all orders, or that it is unfinished over them, is found where this verdict is a no. Of
--- another order the verdict on its records is kept, with its reason, and is a yes.
+-- That it is unfinished over all orders is found where this verdict is a no. Of another order the
+-- verdict on its records is kept, with its reason, and is a yes.
 abbrev pub IsSought : {X : Type 0} → Config → VerdictValue → Searched X → Type 0
 IsSought config verdict searches.Nothing = Unit {0}
-IsSought config verdict (searches.NoOrder u instead) = IsNo verdict
+IsSought config verdict (searches.NoOrder u instead) = Unit {0}
 IsSought config verdict (searches.Another another) =
     AreExplained config (records_of another.recording.entries.items) another.explained
     × IsYes (verdict_value another.explained.verdict)

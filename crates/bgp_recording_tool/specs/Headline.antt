@@ -15,6 +15,7 @@ use Rattle.packets.specs.Packet.{Recorded}
 use Rattle.bgp_open.specs.declared.config.Config.{Config}
 use Rattle.bgp_machine.specs.Lists.{Has}
 use Rattle.bgp_machine.specs.Run.{End, IsComplete}
+use Rattle.bgp_tool.specs.VerdictText.{no_line, unfinished_line}
 use Rattle.bgp_judge.specs.Ends.{ListsEnds}
 use Rattle.bgp_judge.specs.Verdict.{VerdictValue, No, Unfinished, HasVerdict}
 use Rattle.bgp_recording.specs.Captured.{CanBeNamed, IsNoRefresh, records_of}
@@ -25,19 +26,24 @@ use Rattle.bgp_recording.specs.declared.ordering.Exchange.{Exchange}
 use Rattle.bgp_orders.specs.Connections.{IsPacketOf, NoWayExplains, TellsConnection}
 use Rattle.bgp_orders.specs.Explained.{IsExplained, IsWhole}
 use Rattle.bgp_orders.specs.WholeWays.{CanHaveEnded}
+use Rattle.bgp_orders.specs.declared.connection.OverOrders.{OverOrders}
+use Rattle.bgp_orders.specs.declared.connection.OverOrders.TheVariants as over
 use Rattle.bgp_orders.specs.declared.connection.Unexplained.{Unexplained}
 use Rattle.bgp_explain.specs.declared.report.Report.{Report}
 use Rattle.bgp_import.specs.Captures.{IsCapture}
 use Rattle.bgp_import.specs.Importing.{IsMadeOf}
 use Rattle.bgp_import.specs.Once.{IsMadeOfPackets, MeanTheSame}
 use Rattle.bgp_import.specs.declared.importing.Import.{Import}
-use Rattle.bgp_import.specs.Refusals.{refusal_number}
+use Rattle.bgp_import.specs.Refusals.{refusal_line, refusal_number}
+use Rattle.bgp_import.specs.declared.refusal.Refusal.{Refusal}
 use Rattle.bgp_import.specs.Selecting.{AreTaken}
 use Rattle.bgp_import.specs.declared.note.Notes.{Notes}
-use Rattle.bgp_recording_tool.specs.Connections.{IsNothing, IsTold, IsToldAs}
+use Rattle.bgp_recording_tool.specs.Connections.{IsMadeVerdict, IsNotJudged, IsOverAll}
+use Rattle.bgp_recording_tool.specs.Connections.{IsTold, IsToldAs}
 use Rattle.bgp_recording_tool.specs.Found.{IsNoYes}
 use Rattle.bgp_recording_tool.specs.Told.{Told, Judged, NoOrder, InAnotherOrder, Refused}
-use Rattle.bgp_recording_tool.specs.Told.{UnfinishedOverAll, no_order_line}
+use Rattle.bgp_recording_tool.specs.Told.{UnfinishedOverAll, no_order_line, refused_status}
+use Rattle.bgp_recording_tool.specs.Told.{value_status, value_text}
 use Rattle.bgp_recording_tool.specs.declared.remark.Remark.{Remark}
 
 -- Some run of the session machine ends so and shows just the records of these entries, and they
@@ -104,18 +110,25 @@ NoAtPacketIsByNoOrder =
     → (u : Unexplained) × (more : List ℕ) × (text ≡ no_order_line u.packet ++ more)
     × (status ≡ 1) × IsByNoOrder config wanted packets segments number u
 
--- The made records of the connection with this number, or of the only one, are unfinished. So it is
--- over all orders that the packets allow, or these say nothing that is told in its place, or it isn't
--- known what they say.
-pub record IsUnfinishedAsMade (config : Config) (wanted : Import) (packets : List Recorded)
-    (segments : List Segment) (number : Option ℕ) : Type 0 where
-  pub connection : Connection
-  pub chosen : IsAnswered number (length packets) (numbered (reverse segments)) connection
+-- This is the verdict on the made records of the connection with this number, or of the only one,
+-- and it isn't known what all orders say, for too many nodes.
+pub record IsAsMade (config : Config) (wanted : Import) (packets : List Recorded)
+    (segments : List Segment) (number : Option ℕ) (verdict : VerdictValue) : Type 0 where
   pub entries : List Entry
-  pub notes : Notes
-  pub made : IsMadeOf wanted connection entries notes
-  pub is : HasVerdict config (records_of entries) Unfinished
-  pub searched : IsNothing config wanted packets segments number Unfinished
+  pub made : IsMadeVerdict config wanted packets segments number entries verdict
+  pub many : IsOverAll config wanted packets segments number over.TooMany
+
+-- If what is printed of a connection begins as a no of the made records does, it is theirs, at the
+-- record behind so many, and the exit status is 1.
+abbrev pub NoAtRecordIsAsMade : Type 0
+NoAtRecordIsAsMade =
+    (config : Config) (report : Report) (wanted : Import) (packets : List Recorded)
+    (segments : List Segment) (number named : Option ℕ) (text : List ℕ) (status : ℕ)
+    (remarks : List Remark) (rest : List ℕ)
+    → IsToldAs config report wanted packets segments number named text status remarks
+    → text ≡ codes "no at record " ++ rest
+    → (count : ℕ) × (more : List ℕ) × (text ≡ no_line count ++ more) × (status ≡ 1)
+    × IsAsMade config wanted packets segments number (No count)
 
 -- What packets tell of that connection: some order that they allow explains all that was sent, and
 -- no run shows just the records of any, whichever state the session begins in.
@@ -128,8 +141,8 @@ pub record IsUnfinishedByEach (config : Config) (wanted : Import) (packets : Lis
   pub explained : IsExplained config wanted.within exchange (length exchange.sent.now)
   pub none : (e : End) → ¬ IsWhole config wanted.within exchange e
 
--- If what is printed of a connection begins as what is unfinished does, one of both holds, and the
--- exit status is 2.
+-- If what is printed of a connection begins as what is unfinished does, that holds, or the made
+-- records are unfinished, and it isn't known what all orders say; and the exit status is 2.
 abbrev pub UnfinishedIsSo : Type 0
 UnfinishedIsSo =
     (config : Config) (report : Report) (wanted : Import) (packets : List Recorded)
@@ -138,8 +151,42 @@ UnfinishedIsSo =
     → IsToldAs config report wanted packets segments number named text status remarks
     → text ≡ codes "unfinished" ++ rest
     → (status ≡ 2)
-    × (IsUnfinishedAsMade config wanted packets segments number
+    × (IsAsMade config wanted packets segments number Unfinished
     ⊎ IsUnfinishedByEach config wanted packets segments number)
+
+-- what is printed begins with this line, and this is its exit status
+abbrev pub BeginsWith : List ℕ → ℕ → List ℕ → ℕ → Type 0
+BeginsWith line code text status =
+    (rest : List ℕ) × (text ≡ line ++ rest) × (status ≡ code)
+
+-- What is printed of a connection, and its exit status, if this is the verdict over all orders:
+-- that verdict. If it isn't known, for too many nodes, it is the one on the made records, which is
+-- no yes.
+abbrev pub IsPrintedOver : Config → Import → List Recorded → List Segment → Option ℕ → OverOrders
+    → List ℕ → ℕ → Type 0
+IsPrintedOver config wanted packets segments number over.Yes text status =
+    BeginsWith (codes "yes\n") 0 text status
+IsPrintedOver config wanted packets segments number (over.No u) text status =
+    BeginsWith (no_order_line u.packet) 1 text status
+IsPrintedOver config wanted packets segments number over.Unfinished text status =
+    BeginsWith unfinished_line 2 text status
+IsPrintedOver config wanted packets segments number over.TooMany text status =
+    (entries : List Entry) × (verdict : VerdictValue)
+    × IsMadeVerdict config wanted packets segments number entries verdict × IsNoYes verdict
+    × BeginsWith (value_text verdict) (value_status verdict) text status
+
+-- Whatever is printed of a connection that isn't refused, it is printed of what all orders say.
+abbrev pub PrintsVerdictOverAll : Type 0
+PrintsVerdictOverAll =
+    (config : Config) (report : Report) (wanted : Import) (packets : List Recorded)
+    (segments : List Segment) (number named : Option ℕ) (text : List ℕ) (status : ℕ)
+    (remarks : List Remark)
+    → IsToldAs config report wanted packets segments number named text status remarks
+    → ((verdict : OverOrders) × IsOverAll config wanted packets segments number verdict
+    × IsPrintedOver config wanted packets segments number verdict text status)
+    ⊎ ((refusal : Refusal)
+    × IsNotJudged config wanted packets segments number named refusal remarks
+    × (text ≡ refusal_line refusal) × (status ≡ refused_status refusal))
 
 -- The first ROUTE-REFRESH of some records stands after these.
 pub record IsFirstRefresh (records front : List ShownRecord) : Type 0 where

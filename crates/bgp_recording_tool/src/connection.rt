@@ -12,7 +12,7 @@ ghost use Rattle.bgp_prefix.specs.declared.session.RouteRefresh.TheVariants.{Ref
 ghost use Rattle.bgp_judge.specs.Verdict.{verdict_value};
 ghost use Rattle.bgp_tool.specs.Status.{code_of};
 ghost use Rattle.bgp_import.specs.Gathers.{HoldsSession};
-ghost use Rattle.bgp_import.specs.Making.{HoldsTaken};
+ghost use Rattle.bgp_import.specs.Making.{HoldsTaken, TellsOne};
 ghost use Rattle.bgp_import.specs.Refreshes.{IsRefreshIn};
 ghost use Rattle.bgp_import.specs.Refusals.{refusal_line};
 ghost use Rattle.bgp_import.specs.Selecting.{AreTaken};
@@ -26,7 +26,7 @@ ghost use Rattle.bgp_explain.specs.Text.{CanBePutOf};
 ghost use Rattle.bgp_recording_tool.specs.Connections.{IsMore, IsMoreOf, IsToldAs};
 ghost use Rattle.bgp_recording_tool.specs.Connections.{made_style};
 ghost use Rattle.bgp_why.specs.declared.other_orders.OtherOrders.TheVariants.{Unasked};
-ghost use Rattle.bgp_recording_tool.specs.Found.{IsNo, IsSought, entries_of, found_of};
+ghost use Rattle.bgp_recording_tool.specs.Found.{IsSought, entries_of, found_of};
 ghost use Rattle.bgp_recording_tool.specs.Judging.{Puts};
 ghost use Rattle.bgp_recording_tool.specs.Options.{IsOneFamily};
 ghost use Rattle.bgp_recording_tool.specs.Putting.{PutsNothing, PutsReport};
@@ -155,6 +155,18 @@ fn put_answer<A: Allocator + Copy, W: Sink>(
     }
 }
 
+/// Returns the exit status of the verdict, or of a no over all orders, if a sent message is known
+/// that no order explains.
+fn answer_status<A: Allocator>(verdict: &Verdict<A>, unexplained: Option<Unexplained>) -> Status
+    ensures { (more : List ℕ)
+        → code_of result ≡ told_status (told_of (verdict_value verdict.now) unexplained more) }
+{
+    match unexplained {
+        None => verdict_status(verdict),
+        Some(_) => Status::No,
+    }
+}
+
 /// Puts the verdict on the records of these entries, or the sent message that no order explains,
 /// and what stands after it, and answers its exit status.
 fn put_report<A: Allocator + Copy, W: Sink>(
@@ -169,7 +181,6 @@ fn put_report<A: Allocator + Copy, W: Sink>(
 ) -> Status
     requires explained { AreExplained config.now (captured.records_of entries.now) explained.now }
     requires can { CanBePutOf config.now.parts.session explained.now.reason }
-    requires is_no { IfSome unexplained (λ u. IsNo (verdict_value explained.now.verdict)) }
     ensures { (more : List ℕ)
         × IsMore report config.now entries.now instead (verdict_value explained.now.verdict) more
         × PutsLines lines.old lines.new (told_text
@@ -179,7 +190,7 @@ fn put_report<A: Allocator + Copy, W: Sink>(
 {
     put_answer(lines, &explained.verdict, unexplained);
     put_more(lines, alloc, config, report, entries, explained, instead);
-    verdict_status(&explained.verdict)
+    answer_status(&explained.verdict, unexplained)
 }
 
 /// Puts that it is unfinished over all orders, and what stands after the verdict on the records of
@@ -264,12 +275,12 @@ fn put_searched<A: Allocator + Copy, W: Sink>(
     }
 }
 
-/// Judges the records of a connection, puts what is reported on them, adds what there is to tell of
-/// it, with a number where several are told of, and answers the exit status. If they aren't a yes,
-/// all orders are searched: another that is one is reported in place of the made one, and of a no a
-/// sent message that none explains in place of the record. If memory is refused for the verdict or
-/// for that search nothing is put or added; if it is refused for what there is to tell besides, that
-/// is left out.
+/// Judges the records that are made of a connection, puts what is reported on them, adds what there
+/// is to tell of it, with a number where several are told of, and answers the exit status. If they
+/// aren't a yes, all orders are searched: another that is one is reported in place of the made one,
+/// and of a no a sent message that none explains in place of the record. If memory is refused for
+/// the verdict or for that search nothing is put or added; if it is refused for what there is to
+/// tell besides, that is left out.
 fn report_made<A: Allocator + Copy, T: Tracker<A>, W: Sink>(
     alloc: A,
     config: &Config,
@@ -291,7 +302,8 @@ fn report_made<A: Allocator + Copy, T: Tracker<A>, W: Sink>(
         → AreTaken import.now.selection 0 packets segments
         → HoldsSession (reverse segments) (length packets) gathered.now
         → MatchResult result
-        (λ status. PutsReport config.now report import.now packets segments number named
+        (λ status. TellsOne import.now number packets segments made.now
+        → PutsReport config.now report import.now packets segments number named
         made.now.entries.items (notes_of made.now) lines.old lines.new remarks.old.items
         remarks.new.items (code_of status))
         (λ error. PutsNothing lines.old lines.new remarks.old.items remarks.new.items) }

@@ -5,6 +5,7 @@ ghost use Rattle.bgp_recording_tool.specs.Told.{NoIsTold};
 ghost use Rattle.bgp_recording_tool.specs.Headline.{EachEndIsShown, EachEndOfAnotherIsShown};
 ghost use Rattle.bgp_recording_tool.specs.Headline.{ImportAndJudgeAgree};
 ghost use Rattle.bgp_recording_tool.specs.Headline.{JudgeTellsTheCapture, NoAtPacketIsByNoOrder};
+ghost use Rattle.bgp_recording_tool.specs.Headline.{NoAtRecordIsAsMade, PrintsVerdictOverAll};
 ghost use Rattle.bgp_recording_tool.specs.Headline.{UnfinishedIsSo};
 ghost use Rattle.bgp_recording_tool.specs.Judging.{JudgesRecording};
 
@@ -29,10 +30,11 @@ use std::alloc::Allocator;
 /// allow are searched. If another is a yes, that yes is reported, and a remark says so. A no over
 /// all is reported by the packet of a sent message ([`a_no_at_a_packet_is_by_no_order`]). If some
 /// order explains all that was sent and none is a yes, unfinished is reported
-/// ([`what_is_unfinished_is_so`]). If there are too many to be searched, the verdict on the made
-/// order is reported: a no by its record, which is about this one order, and another may be a yes.
-/// By [`import_and_judge_agree`] the capture that is imported has the verdict of the made order
-/// from [`judge_capture`](bgp_tool::judge_capture).
+/// ([`what_is_unfinished_is_so`]). So the verdict over all orders is reported
+/// ([`what_is_printed_is_over_all_orders`]). Only if there are too many to be searched, the verdict
+/// on the made order is: a no by its record, which is about this one order, and another may be a
+/// yes ([`a_no_at_a_record_is_as_made`]). By [`import_and_judge_agree`] the capture that is
+/// imported has the verdict of the made order from [`judge_capture`](bgp_tool::judge_capture).
 ///
 /// It judges the connection that is named, or the only one; where there are several and none is
 /// named, each, under a line that names it. It writes the text of each verdict, or `recording
@@ -163,14 +165,35 @@ pub fn a_no_at_a_packet_is_by_no_order()
 
 /// Law: what an unfinished is worth.
 ///
-/// If what is printed of a connection begins with `unfinished`, its made records are unfinished,
-/// and no other order is a yes, or it isn't known, for too many nodes; the records of an order that
-/// is whole by the search are judged, and aren't a yes. Or some order that the packets allow
+/// If what is printed of a connection begins with `unfinished`, some order that the packets allow
 /// explains all that was sent, and no run of the session machine shows just the records of any of
-/// these orders under this configuration, whichever state the session begins in.
+/// these orders under this configuration, whichever state the session begins in. Or its made
+/// records are unfinished, and it isn't known what all orders say, for too many nodes.
 pub fn what_is_unfinished_is_so()
     ensures { UnfinishedIsSo }
 {}
+
+/// Law: what a no of one order is worth.
+///
+/// If what is printed of a connection begins with `no at record`, its made records are a no at that
+/// record, and it isn't known what all orders say, for too many nodes: more than 1,048,576.
+pub fn a_no_at_a_record_is_as_made()
+    ensures { NoAtRecordIsAsMade }
+{}
+
+/// Law: what is printed of a connection is the verdict over all orders of its messages that the
+/// packets allow within the patience, whichever state the session begins in.
+///
+/// It is `yes` if some run of the session machine shows just the records of some order; `no at
+/// packet` of the first sent message that no order explains; or `unfinished`, if some order explains
+/// all that was sent, and no run shows just the records of any. There is one exception: if it isn't
+/// known what all orders say, for too many nodes, the verdict on the made records is printed, and
+/// that is no yes. Or the connection is refused, as it is if memory is.
+pub fn what_is_printed_is_over_all_orders()
+    ensures { PrintsVerdictOverAll }
+{
+    runs_of_entries_are_whole();
+}
 
 /// Law: what is imported of a recording is judged as the recording is.
 ///

@@ -32,8 +32,9 @@ mod remarking;
 pub use decoding::decode_recording;
 pub use files::{FileOutcome, decode_file, judge_file};
 pub use headline::{
-    a_no_at_a_packet_is_by_no_order, a_no_is_told, each_end_is_shown, import_and_judge_agree,
-    judge_recording, what_is_unfinished_is_so,
+    a_no_at_a_packet_is_by_no_order, a_no_at_a_record_is_as_made, a_no_is_told, each_end_is_shown,
+    import_and_judge_agree, judge_recording, what_is_printed_is_over_all_orders,
+    what_is_unfinished_is_so,
 };
 pub use judging::{Judged, status_of};
 pub use laws::{

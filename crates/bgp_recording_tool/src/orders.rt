@@ -1,6 +1,7 @@
 //! What all orders of one of a recording's connections say, beside the made one.
 
-ghost use Rattle.std.specs.Prelude.{◌≡◌, List, IfOk, IfSome, IsFalse, IsTrue, length, reverse};
+ghost use Rattle.std.specs.Prelude.{◌≡◌, List, IfNone, IfOk, IfSome, IsFalse, IsTrue};
+ghost use Rattle.std.specs.Prelude.{length, reverse};
 ghost use Rattle.packets.specs.Packet.{Recorded};
 ghost use Rattle.streams.specs.Passed.{Segment};
 ghost use Rattle.bgp_judge.specs.Verdict.{Unfinished, verdict_value};
@@ -9,9 +10,11 @@ ghost use Rattle.bgp_import.specs.Making.{HoldsTaken};
 ghost use Rattle.bgp_import.specs.Selecting.{AreTaken};
 ghost use Rattle.bgp_recording.specs.Captured.{records_of};
 ghost use Rattle.bgp_recording.specs.Gathered.{IsClocked, IsCovered};
+ghost use Rattle.bgp_orders.specs.WholeWays.{NoneIsFoundOver};
 ghost use Rattle.bgp_explain.specs.Records.{AreExplained};
 ghost use Rattle.bgp_recording_tool.specs.Connections.{AreInsteadOver, IsFound, IsFoundOver};
-ghost use Rattle.bgp_recording_tool.specs.Connections.{IsInstead, IsInsteadOver, IsYesOver};
+ghost use Rattle.bgp_recording_tool.specs.Connections.{IsInstead, IsInsteadOver, IsMadeVerdict};
+ghost use Rattle.bgp_recording_tool.specs.Connections.{IsYesOver};
 ghost use Rattle.bgp_recording_tool.specs.Found.{IsNo, IsNoYes, IsSought, IsYes};
 ghost use Rattle.bgp_recording_tool.specs.Found.{ends_of, entries_of, found_of};
 
@@ -72,8 +75,9 @@ fn is_yes<A: Allocator>(verdict: &Verdict<A>) -> bool
     }
 }
 
-/// Returns the records of a whole way of the connection's messages, if judging them answers yes.
-/// Returns `AllocError` if memory is refused.
+/// Returns the records of a whole way of the connection's messages, and the yes that judging them
+/// answers. Returns `None` only if no way is whole, or if there are too many nodes, and
+/// `AllocError` if memory is refused.
 fn another_yes<'a, A: Allocator + Copy, T: Tracker<A>>(
     alloc: A,
     config: &Config,
@@ -89,14 +93,13 @@ fn another_yes<'a, A: Allocator + Copy, T: Tracker<A>>(
     ensures yes { IfOk result (λ found. IfSome found (λ another. IsClocked connection.now
         → IsYesOver config.now within framings connection.now another.recording.entries.items
         (ends_of (verdict_value another.explained.verdict)))) }
+    ensures none { IfOk result (λ found. IfNone found
+        (NoneIsFoundOver config.now within framings connection.now)) }
 {
     let Some(recording) = record_whole_way(alloc, config, connection, framings, within)? else {
         return Ok(None);
     };
     let explained = explain_records::<A, T>(alloc, config, &recording.records)?;
-    if !is_yes(&explained.verdict) {
-        return Ok(None);
-    }
     Ok(Some(AnotherOrder {
         recording,
         explained,
@@ -135,10 +138,10 @@ fn instead_of<A: Allocator + Copy>(
     }
 }
 
-/// Returns what is found over all orders of the connection's messages, if this is the verdict on the
-/// records of the made entries, and no yes. It is nothing only if it isn't known, for too many nodes;
-/// if the verdict is unfinished and no other order is a yes; or if some order is whole, and the
-/// records of such a one aren't judged with a yes. Returns `AllocError` if memory is refused.
+/// Returns what is found over all orders of the connection's messages, if this is the verdict on
+/// the records of the made entries, and no yes. It is nothing only if it isn't known, for too many
+/// nodes, or if it is unfinished over all orders, as this verdict is. Returns `AllocError` if memory
+/// is refused.
 fn search_connection<'a, A: Allocator + Copy, T: Tracker<A>>(
     alloc: A,
     config: &Config,
@@ -169,9 +172,6 @@ fn search_connection<'a, A: Allocator + Copy, T: Tracker<A>>(
             }
         }
         OverOrders::No(unexplained) => {
-            if !is_no(verdict) {
-                return Ok(Searched::Nothing);
-            }
             let before = unexplained.before;
             let instead = instead_of(
                 alloc, config, report, connection, framings, within, before, made, verdict,
@@ -188,9 +188,9 @@ fn search_connection<'a, A: Allocator + Copy, T: Tracker<A>>(
     }
 }
 
-/// Returns what is found over all orders of the connection of this number, or of the only one, if
-/// the verdict on the records of the made entries isn't a yes. If it is one nothing is searched.
-/// Returns `AllocError` if memory is refused.
+/// Returns what is found over all orders of the connection of this number, or of the only one, of
+/// which these entries are made, if the verdict on their records isn't a yes. If it is one nothing
+/// is searched. Returns `AllocError` if memory is refused.
 pub(crate) fn search_orders<'a, A: Allocator + Copy, T: Tracker<A>>(
     alloc: A,
     config: &Config,
@@ -207,6 +207,8 @@ pub(crate) fn search_orders<'a, A: Allocator + Copy, T: Tracker<A>>(
     ensures found { IfOk result (λ searched. (packets : List Recorded) (segments : List Segment)
         → AreTaken import.now.selection 0 packets segments
         → HoldsSession (reverse segments) (length packets) gathered.now
+        → IsMadeVerdict config.now import.now packets segments number made.now
+        (verdict_value verdict.now)
         → IsFound config.now import.now packets segments number (verdict_value verdict.now)
         (entries_of searched) (found_of searched)) }
     ensures instead { IfOk result (λ searched. (packets : List Recorded) (segments : List Segment)

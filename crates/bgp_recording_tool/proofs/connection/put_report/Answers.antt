@@ -1,9 +1,9 @@
-use Rattle.std.proofs.Common.{◌∙◌, ℕ, List, subst}
+use Rattle.std.proofs.Common.{ℕ, List, subst}
 use Rattle.bgp_judge.specs.Verdict.{verdict_value}
 use Rattle.bgp_verdict_lines.specs.Lines.{PutsLines}
 use Rattle.bgp_text.proofs.Pieces.{Joins}
 use Rattle.bgp_verdict_lines.proofs.Puts.{then_lines}
-use Rattle.bgp_recording_tool.proofs.Texts.{more_text, same_status}
+use Rattle.bgp_recording_tool.proofs.Texts.{more_text}
 use Rattle.bgp_recording_tool.proofs.connection.put_report.Goals as goal
 
 pub returns : goal.returns
@@ -15,5 +15,5 @@ returns g c =
       more,
       is_more,
       subst (λ (t : List ℕ). PutsLines c.args.lines.now c.put_more.new.lines t) (more_text verdict unexplained more) (then_lines law c.put_answer.ensures put),
-      c.verdict_status.ensures ∙ same_status verdict unexplained more c.requires.is_no,
+      c.answer_status.ensures more,
     )

@@ -34,9 +34,10 @@ report_made-reported-requires-clause-can g c =
 
 pub returns-in-Ok-reported : goal.returns-in-Ok-reported
 returns-in-Ok-reported g c = λ packets segments taken holds.
+    let tells = rw c.in-Ok.is at (c.records_of.ensures.told packets segments taken holds) in
     was_judged c.args.config.now c.args.report c.args.import.now packets segments c.args.number c.args.named c.args.lines.now c.report_made-reported.new.lines c.args.remarks.now.items
-    c.report_made-reported.new.remarks.items (code_of c.in-Ok-reported.status) c.in-Ok.made (rw c.in-Ok.is at (c.records_of.ensures.told packets segments taken holds))
-    c.in_default.ensures.none (c.in-Ok-reported.ensures packets segments taken holds)
+    c.report_made-reported.new.remarks.items (code_of c.in-Ok-reported.status) c.in-Ok.made tells
+    c.in_default.ensures.none (c.in-Ok-reported.ensures packets segments taken holds tells)
 
 pub returns : goal.returns
 returns g c = λ packets segments taken holds.

@@ -9,8 +9,9 @@ use Rattle.bgp_parts.specs.Confederations.{SomeShowConfederations}
 use Rattle.bgp_explain.specs.LeftOut.{JudgesWithout}
 use Rattle.bgp_explain.specs.Records.{AreExplained, CanBeShown}
 use Rattle.bgp_explain.proofs.NextRecord.{can_of, entries_can}
-use Rattle.bgp_recording_tool.specs.Connections.{IsInstead, IsMoreOf}
+use Rattle.bgp_recording_tool.specs.Connections.{IsInstead, IsMadeVerdict, IsMoreOf}
 use Rattle.bgp_recording_tool.specs.Found.{entries_of, found_of}
+use Rattle.bgp_recording_tool.proofs.Judgings.{made_verdict_of}
 use Rattle.bgp_recording_tool.proofs.connection.report_made.Goals as goal
 
 pub put_searched-requires-clause-explained : goal.put_searched-requires-clause-explained
@@ -33,19 +34,22 @@ pub put_searched-requires-clause-sought : goal.put_searched-requires-clause-soug
 put_searched-requires-clause-sought g c = c.in_ok-searched.ensures.sought
 
 pub returns : goal.returns
-returns g c = λ packets segments taken holds.
+returns g c = λ packets segments taken holds tells_one.
     let config = c.args.config.now in
     let same = c.as_slice-entries.ensures.value in
     let verdict = verdict_value c.in_ok-explained.explained.verdict in
     let (more, is_more, wrote, tells) = c.put_searched.ensures in
     let records = c.requires.records in
+    let is = subst (λ (rs : List ShownRecord). HasVerdict config rs verdict) (ap (map shown_of) c.deref.ensures.value ∙ records) c.in_ok-explained.ensures.explained.verdict in
+    let is_made = made_verdict_of config c.args.import.now packets segments c.args.number c.args.made.now verdict tells_one is in
     record {
       verdict = verdict;
       found = found_of c.in_ok-searched.searched;
       others = entries_of c.in_ok-searched.searched;
       more = more;
-      is = subst (λ (rs : List ShownRecord). HasVerdict config rs verdict) (ap (map shown_of) c.deref.ensures.value ∙ records) c.in_ok-explained.ensures.explained.verdict;
-      is_found = c.in_ok-searched.ensures.found packets segments taken holds;
+      is = is;
+      is_found = c.in_ok-searched.ensures.found packets segments taken holds
+          (subst (λ (es : List Entry). IsMadeVerdict config c.args.import.now packets segments c.args.number es verdict) (sym same) is_made);
       is_more = subst (λ (es : List Entry). IsMoreOf c.args.report config es (entries_of c.in_ok-searched.searched) verdict (found_of c.in_ok-searched.searched) more) same is_more;
       instead = subst (λ (es : List Entry). IsInstead config c.args.import.now packets segments c.args.report c.args.number es verdict (found_of c.in_ok-searched.searched)) same
           (c.in_ok-searched.ensures.instead packets segments taken holds);

@@ -1,9 +1,15 @@
-use Rattle.std.proofs.Common.{inl, inr, subst}
+use Rattle.std.proofs.Common.{inl, subst}
 use Rattle.bgp_orders.specs.Connections.{IsOverOrders}
+use Rattle.bgp_orders.specs.WholeWays.{NoneIsFoundOver}
 use Rattle.bgp_orders.specs.declared.connection.OverOrders.{OverOrders}
+use Rattle.bgp_recording_tool.proofs.MadeOverAll.{found_or_many}
+use Rattle.bgp_recording_tool.proofs.Searchings.{none_is}
 use Rattle.bgp_recording_tool.proofs.orders.search_connection.Goals as goal
 
-pub returns-then-not-is_no-clause-found : goal.returns-then-not-is_no-clause-found
-returns-then-not-is_no-clause-found g c = λ clocked.
-    let told = subst (λ (o : OverOrders). IsOverOrders c.args.config.now c.args.within c.args.framings c.args.connection.now o) c.in-No.is (c.in_ok-verdict_over_orders.ensures clocked) in
-    inr (inl (c.is_no.ensures.no c.if-not-is_no.true c.requires.no_yes, inr (c.in-No.unexplained, told)))
+pub returns-in-None-clause-found : goal.returns-in-None-clause-found
+returns-in-None-clause-found g c = λ clocked.
+    let config = c.args.config.now in
+    let connection = c.args.connection.now in
+    let whole = subst (λ (o : OverOrders). IsOverOrders config c.args.within c.args.framings connection o) c.in-Yes.is (c.in_ok-verdict_over_orders.ensures clocked) in
+    inl (found_or_many config c.args.within c.args.framings connection clocked whole
+    (none_is c.in_ok-another_yes.field-0 (NoneIsFoundOver config c.args.within c.args.framings connection) c.in-None.is c.in_ok-another_yes.ensures.none))
