@@ -215,8 +215,13 @@ pub(crate) fn put_drawn<A: Allocator + Copy, W: Sink>(
         drawn.now.names.left.items drawn.now.names.right.items) lines.old lines.new }
 {
     put_start(lines, drawn, is_open, order);
-    let entries = &drawn.made.recording.entries;
-    match put_rows(alloc, lines, &drawn.ladder, possible, entries) {
+    match put_rows(
+        alloc,
+        lines,
+        &drawn.ladder,
+        possible,
+        &drawn.made.recording.entries,
+    ) {
         Ok(()) => put_whole_end(lines),
         Err(AllocError) => put_cut_end(lines),
     }

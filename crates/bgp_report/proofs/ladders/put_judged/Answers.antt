@@ -7,7 +7,7 @@ returns-in-Some g c = λ port packets text held noted.
     let known = c.in-Some.ensures.heard port packets held in
     let put = c.put_connected.ensures known.1 in
     elim put.1 [
-      | inl is ↦ (put.0, inl (c.in-Some.connection, _, known.0, c.possible_at.ensures text noted, is), put.2)
+      | inl is ↦ (put.0, inl (c.in-Some.connection, c.possible_at.result.now, known.0, c.possible_at.ensures text noted, is), put.2)
       | inr lacking ↦ (put.0, inr lacking, put.2)
     ]
 
