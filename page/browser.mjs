@@ -67,14 +67,20 @@ export class Browser {
     }
   }
 
-  // Keeps each request, also those of the worker, and all that is said on the console.
+  // Keeps each request, also those of the worker, whether the policy blocked it, and all that is said
+  // on the console.
   note({ method, params, sessionId }) {
     if (method === "Target.attachedToTarget") {
       for (const it of ["Network.enable", "Runtime.enable"]) {
         this.wire.send(it, {}, params.sessionId).catch(() => {});
       }
     }
-    if (method === "Network.requestWillBeSent") this.requests.push(params.request.url);
+    if (method === "Network.requestWillBeSent") {
+      this.requests.push({ id: params.requestId, url: params.request.url, blocked: false });
+    }
+    if (method === "Network.loadingFailed" && params.blockedReason === "csp") {
+      this.requests.filter(it => it.id === params.requestId).forEach(it => { it.blocked = true; });
+    }
     if (method === "Runtime.exceptionThrown") {
       this.said.push(params.exceptionDetails.exception?.description ?? params.exceptionDetails.text);
     }

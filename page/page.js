@@ -136,17 +136,16 @@ function listen(ask) {
   at("print").onclick = () => at("report").contentWindow.print();
 }
 
-(async () => {
-  const lacks = lacking();
-  if (lacks) {
-    at("file").disabled = true;
-    return say(`${lacks} ${INSTEAD}`, true);
-  }
-  try {
-    listen(await startEngine());
-    document.body.dataset.ready = "";
-  } catch (error) {
-    at("file").disabled = true;
-    say(`The module can't be started: ${error.message}. ${INSTEAD}`, true);
-  }
-})();
+// Says why no file can be checked here, and takes none.
+function refuse(sentence) {
+  at("file").disabled = true;
+  say(`${sentence} ${INSTEAD}`, true);
+}
+
+const lacks = lacking();
+if (lacks) refuse(lacks);
+else {
+  const engine = startEngine();
+  engine.catch(error => refuse(`The module can't be started: ${error.message}.`));
+  listen(async asked => (await engine)(asked));
+}
