@@ -1,5 +1,5 @@
 -- What it says of all orders that nothing is found that is told in place of the made verdict.
-use Rattle.std.proofs.Common.{◌≡◌, ◌⊎◌, ℕ, List, Option, inl, inr}
+use Rattle.std.proofs.Common.{◌⊎◌, ℕ, List, Option, inl, inr}
 use Rattle.packets.specs.Packet.{Recorded}
 use Rattle.streams.specs.Passed.{Segment}
 use Rattle.bgp_open.specs.declared.config.Config.{Config}

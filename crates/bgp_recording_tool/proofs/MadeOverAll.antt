@@ -1,9 +1,8 @@
 -- What the verdict on the made records says of all orders, and what is found over them beside it.
-use Rattle.std.proofs.Common.{◌≡◌, ◌≢◌, ◌∙◌, ◌+◌, ◌<◌, ◌++◌, ℕ, List, [], ◌∷◌, inl, inr, refl, sym, ap, subst, arith, append-nil, length, map}
+use Rattle.std.proofs.Common.{◌≡◌, ◌∙◌, ◌+◌, ◌<◌, ℕ, List, [], ◌∷◌, inl, inr, refl, sym, ap, subst, arith, append-nil, length, map}
 use Rattle.bgp_prefix.specs.Shown.{ShownRecord}
 use Rattle.streams.specs.declared.connection.Connection.{Connection}
 use Rattle.bgp_open.specs.declared.config.Config.{Config}
-use Rattle.bgp_machine.specs.Lists.{Each}
 use Rattle.bgp_machine.specs.Run.{Begins, End, IsComplete, Run}
 use Rattle.bgp_machine.specs.State.{fresh_state}
 use Rattle.bgp_judge.specs.Verdict.{HasVerdict, VerdictValue, Yes, No, Unfinished}
@@ -19,9 +18,9 @@ use Rattle.bgp_recording.specs.Changes.{opened_state}
 use Rattle.bgp_recording.specs.Gathered.{IsClocked}
 use Rattle.bgp_recording.specs.Once.{TellTheSame}
 use Rattle.bgp_recording.specs.Recorded.{IsRecorded}
-use Rattle.bgp_recording.specs.Tells.{Event, Numbered, numbered_of}
+use Rattle.bgp_recording.specs.Tells.{Event, numbered_of}
 use Rattle.bgp_orders.specs.Connections.{IsOverOrders, TellsConnection}
-use Rattle.bgp_orders.specs.Explained.{IsExplained, IsWhole, ShowARun}
+use Rattle.bgp_orders.specs.Explained.{IsExplained, ShowARun}
 use Rattle.bgp_orders.specs.WholeWays.{NoneIsFoundOver}
 use Rattle.bgp_orders.specs.Ways.{IsWay, records_of_way}
 use Rattle.bgp_orders.specs.declared.connection.OverOrders.TheVariants as over

@@ -5,7 +5,7 @@ use Rattle.packets.specs.Packet.{Recorded}
 use Rattle.streams.specs.Passed.{Segment}
 use Rattle.bgp_open.specs.declared.config.Config.{Config}
 use Rattle.bgp_machine.specs.Run.{End}
-use Rattle.bgp_judge.specs.Verdict.{VerdictValue, Yes, No, Unfinished}
+use Rattle.bgp_judge.specs.Verdict.{Yes, No, Unfinished}
 use Rattle.bgp_tool.specs.VerdictText.{end_text}
 use Rattle.bgp_recording.specs.Captured.{records_of}
 use Rattle.bgp_recording.specs.Pieces.{framings_of}

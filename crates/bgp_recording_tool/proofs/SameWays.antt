@@ -1,12 +1,11 @@
 -- The ways of what packets tell of a connection are the same, wherever the octets of its messages lie.
-use Rattle.std.proofs.Common.{◌≡◌, ◌∙◌, ◌≤◌, ◌++◌, ℕ, Bool, List, [], ◌∷◌, Option, IfSome, max, refl, sym, ap, subst, arith, length}
+use Rattle.std.proofs.Common.{◌≡◌, ◌∙◌, ◌≤◌, ◌++◌, ℕ, Bool, List, [], ◌∷◌, Option, max, refl, sym, ap, subst, arith, length}
 use Rattle.std.specs.List.{AllByRecursion}
 use Rattle.bgp_prefix.specs.Shown as shown
 use Rattle.bgp_prefix.specs.Shown.{ShownRecord}
 use Rattle.bgp_wire.specs.declared.header.MessageType.{MessageType}
 use Rattle.streams.specs.declared.connection.Connection.{Connection}
 use Rattle.streams.specs.declared.connection.End.{End}
-use Rattle.streams.specs.declared.passed.Side.{Side}
 use Rattle.bgp_open.specs.declared.config.Config.{Config}
 use Rattle.bgp_machine.specs.Run as runs
 use Rattle.bgp_machine.specs.Run.{IsComplete}
@@ -16,7 +15,7 @@ use Rattle.bgp_recording.specs.declared.ordering.Exchange.{Exchange}
 use Rattle.bgp_recording.specs.declared.standing.Before.{Before}
 use Rattle.bgp_recording.specs.declared.standing.Before.TheVariants.{Other}
 use Rattle.bgp_recording.specs.declared.state.State.{State}
-use Rattle.bgp_recording.specs.Allowed.{Item, Received, Sent, Ended, MayPrecede, EachMayPrecede, IsAllowed, received_in, sent_in, ends_in, ends_of}
+use Rattle.bgp_recording.specs.Allowed.{Item, Received, Sent, Ended, MayPrecede, EachMayPrecede, received_in, sent_in, ends_in, ends_of}
 use Rattle.bgp_recording.specs.Changes.{answers_before_open, are_left, is_answered_before_open, just_received, just_sent, led_by_received, led_by_sent, opened_state, state_then}
 use Rattle.bgp_recording.specs.Gathered.{IsClocked, IsSaid}
 use Rattle.bgp_recording.specs.Moments.{end_moment}

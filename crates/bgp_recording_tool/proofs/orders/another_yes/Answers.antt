@@ -7,9 +7,8 @@ use Rattle.bgp_recording.specs.Gathered.{IsClocked}
 use Rattle.bgp_orders.specs.Explained.{ShowARun}
 use Rattle.bgp_orders.specs.WholeWays.{AreOfAWayOver}
 use Rattle.bgp_explain.specs.Records.{AreExplained}
-use Rattle.bgp_recording_tool.specs.Found.{IsYes}
 use Rattle.bgp_recording_tool.proofs.MadeOverAll.{shown_yes}
-use Rattle.bgp_recording_tool.proofs.Searchings.{none_is, some_is}
+use Rattle.bgp_recording_tool.proofs.Searchings.{some_is}
 use Rattle.bgp_recording_tool.proofs.orders.another_yes.Goals as goal
 
 pub returns-clause-explained : goal.returns-clause-explained

@@ -12,4 +12,4 @@ returns-in-None-clause-found g c = λ clocked.
     let connection = c.args.connection.now in
     let whole = subst (λ (o : OverOrders). IsOverOrders config c.args.within c.args.framings connection o) c.in-Yes.is (c.in_ok-verdict_over_orders.ensures clocked) in
     inl (found_or_many config c.args.within c.args.framings connection clocked whole
-    (none_is c.in_ok-another_yes.field-0 (NoneIsFoundOver config c.args.within c.args.framings connection) c.in-None.is c.in_ok-another_yes.ensures.none))
+    (none_is c.in_ok-another-in-Yes.field-0 (NoneIsFoundOver config c.args.within c.args.framings connection) c.in-None.is c.in_ok-another-in-Yes.ensures.none))

@@ -21,10 +21,10 @@ search_connection-requires-clause-sent g c =
     let answered = rw c.in-Ok.is at (c.choose.ensures (reverse h.segments) (length h.packets) h.holds) in
     (are_covered _ _ _ c.in-Ok.connection answered).1
 
-pub returns-in-Err-clause-found : goal.returns-in-Err-clause-found
-returns-in-Err-clause-found g c = λ packets segments taken holds is.
-    absurd (not_unchosen c.args.number (length packets) (reverse segments) is.connection c.in-Err.field-0 is.chosen
-    (rw c.in-Err.is at (c.choose.ensures (reverse segments) (length packets) holds)))
+pub returns-in_default-clause-found : goal.returns-in_default-clause-found
+returns-in_default-clause-found g c = λ packets segments taken holds is.
+    absurd (not_unchosen c.args.number (length packets) (reverse segments) is.connection c.in_default.field-0 is.chosen
+    (rw c.in_default.is at (c.choose.ensures (reverse segments) (length packets) holds)))
 
 pub returns-clause-found : goal.returns-clause-found
 returns-clause-found g c =
