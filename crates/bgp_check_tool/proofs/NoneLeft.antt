@@ -1,5 +1,5 @@
 -- What the search over all orders can't find, where another order is judged.
-use Rattle.std.proofs.Common.{◌≡◌, ◌≢◌, ◌∙◌, ◌⊎◌, ◌+◌, ◌<◌, ◌++◌, ℕ, zero, suc, Bool, true, false, List, [], ◌∷◌, Option, None, Some, IfNone, IsSomeAnd, append-nil, arith, inl, inr, length, option_map, refl, slice_get, subst, sym, take}
+use Rattle.std.proofs.Common.{◌≡◌, ◌≢◌, ◌∙◌, ◌⊎◌, ◌+◌, ◌<◌, ◌++◌, ℕ, zero, suc, Bool, true, false, List, [], ◌∷◌, Option, None, Some, IsSomeAnd, append-nil, arith, inl, inr, length, option_map, refl, slice_get, subst, sym, take}
 use Rattle.std.proofs.lemmas.Bool.{false≢true}
 use Rattle.bgp_prefix.specs.Shown.{ShownRecord}
 use Rattle.bgp_prefix.specs.declared.session.Session.{Session}
@@ -281,7 +281,7 @@ module _ (session : Session) (within : ℕ) (framings : Framings) (connection : 
       let why = judged_none session records answer no_yes is.answers in
       let way = recorded_way within framings connection none.exchange none.tells clocked is.entries is.received_unshown is.sent_unshown is.recorded in
       let same = one_sent IsWellFormed records none.own why.own (way_sent within none.exchange records way IsWellFormed none.own none.has_own) why.has_own in
-      let some : IfNone None (¬ OffersNone why.own) = family_if None why.sends why.extended why.own why.told why.confederated why.is_why in
+      let some : ¬ OffersNone why.own = family_if None why.sends why.extended why.own why.told why.confederated why.is_why in
       some (subst (λ (o : Option (List ℕ)). OffersNone o) same none.offers)
 
   -- ---- the OPENs with such a message are those of the records, and these have a no
