@@ -1,10 +1,9 @@
 -- What the search over all orders can't find, where another order is judged.
-use Rattle.std.proofs.Common.{◌≡◌, ◌≢◌, ◌∙◌, ◌⊎◌, ◌+◌, ◌<◌, ◌++◌, ℕ, zero, suc, Bool, true, false, List, [], ◌∷◌, Option, None, Some, IsSomeAnd, append-nil, arith, inl, inr, length, option_map, refl, slice_get, subst, sym, take}
+use Rattle.std.proofs.Common.{◌≡◌, ◌≢◌, ◌⊎◌, ◌+◌, ◌<◌, ℕ, zero, suc, Bool, true, false, List, [], ◌∷◌, Option, None, Some, IsSomeAnd, append-nil, arith, inl, inr, length, refl, slice_get, subst, sym}
 use Rattle.std.proofs.lemmas.Bool.{false≢true}
 use Rattle.bgp_prefix.specs.Shown.{ShownRecord}
 use Rattle.bgp_prefix.specs.declared.session.Session.{Session}
 use Rattle.streams.specs.declared.connection.Connection.{Connection}
-use Rattle.bgp_open.specs.Open.{OpenFields, open_of}
 use Rattle.bgp_open.specs.OpenFault.{IsWellFormed}
 use Rattle.bgp_open.specs.declared.config.Config.{Config}
 use Rattle.bgp_machine.specs.Lists.{Each}
@@ -17,8 +16,6 @@ use Rattle.bgp_recording.specs.Recorded.{IsRecorded}
 use Rattle.bgp_recording.specs.declared.entry.Entry.{Entry}
 use Rattle.bgp_recording.specs.declared.framing.Framings.{Framings}
 use Rattle.bgp_recording.specs.declared.framing.Unshown.{Unshown}
-use Rattle.bgp_recording.specs.declared.ordering.Exchange.{Exchange}
-use Rattle.bgp_orders.specs.Connections.{IsPacketOf}
 use Rattle.bgp_orders.specs.Explained.{IsExplained, IsWhole, ShowARun}
 use Rattle.bgp_orders.specs.Many.{AreTooMany}
 use Rattle.bgp_orders.specs.WholeWays.{AreOfAWayOver, NoneIsFoundOver}
@@ -29,26 +26,24 @@ use Rattle.bgp_check.specs.Checked.{IsUnder}
 use Rattle.bgp_check.specs.Configurations.{IsOf}
 use Rattle.bgp_check.specs.NotJudged.{IsWhyNot}
 use Rattle.bgp_check.specs.WidestMade.{IsFaultless, both_of, configurations_of}
-use Rattle.bgp_check.specs.WidestOf.{AreTold, OffersNone, parts_of, widest_of}
+use Rattle.bgp_check.specs.WidestOf.{OffersNone}
 use Rattle.bgp_check.specs.declared.own_fault.OwnFault.{OwnFault}
-use Rattle.bgp_check.specs.declared.peer_as.PeerAs.{PeerAs}
 use Rattle.bgp_check.specs.declared.widest.Widest.{Widest}
 use Rattle.bgp_check.proofs.Answered.{family_if, none_explains}
 use Rattle.bgp_check.proofs.OwnSettings.{none_if_own}
 use Rattle.bgp_check.proofs.SentOwn.{own as sent_is_own}
 use Rattle.bgp_check.proofs.WidestMade.{made as widest_are_made}
-use Rattle.bgp_check_tool.specs.About.{NeverUnexplained}
 use Rattle.bgp_check_tool.specs.Another.{IsLeft, IsNoYes, IsOfAnOrder, IsYes}
 use Rattle.bgp_check_tool.specs.Elsewhere.{count_in}
 use Rattle.bgp_check_tool.specs.Made.{IsMade}
-use Rattle.bgp_check_tool.specs.Orders.{AreTooManyOver, IsAWidest, IsOfNoFamily, IsOfWidest, IsTooLongOver, IsUnexplained, IsWholeOver, UnexplainedByAll, known_of, own_of, peers_of, records_received, records_sent}
+use Rattle.bgp_check_tool.specs.Orders.{AreTooManyOver, IsAWidest, IsOfNoFamily, IsTooLongOver, IsUnexplained, IsWholeOver, UnexplainedByAll, known_of, own_of, peers_of}
 use Rattle.bgp_check_tool.specs.Told.{IsOfOneOrder}
 use Rattle.bgp_check_tool.specs.declared.orders.NoOrder.{NoOrder}
 use Rattle.bgp_check_tool.specs.declared.orders.TooLong.{TooLong}
 use Rattle.bgp_check_tool.proofs.NoOrder.{each_is_of, well_formed}
 use Rattle.bgp_check_tool.proofs.SameWays.{other_whole, same_received, same_sent, values_received, values_sent}
 use Rattle.bgp_check_tool.proofs.WayMessages.{one_sent}
-use Rattle.bgp_check_tool.proofs.WaysOf.{AreOfWay, both_judged, found_way, recorded_way, received_by_way, sent_by_way, way_explains, way_received, way_sent, way_stretch}
+use Rattle.bgp_check_tool.proofs.WaysOf.{AreOfWay, both_judged, found_way, recorded_way, sent_by_way, way_explains, way_received, way_sent, way_stretch}
 
 -- ---- answers
 

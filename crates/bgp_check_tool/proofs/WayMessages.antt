@@ -1,9 +1,8 @@
 -- What the records of a way show is what its messages are, in whichever order.
-use Rattle.std.proofs.Common.{◌≡◌, ◌∙◌, ◌⊎◌, ◌↔◌, ◌++◌, ℕ, Bool, true, false, IsTrue, List, [], ◌∷◌, Option, None, Some, inl, inr, refl, subst, sym}
+use Rattle.std.proofs.Common.{◌≡◌, ◌∙◌, ◌⊎◌, ◌++◌, ℕ, List, [], ◌∷◌, Option, None, Some, inl, inr, subst, sym}
 use Rattle.bgp_prefix.specs.Shown as shown
 use Rattle.bgp_prefix.specs.Shown.{ShownRecord}
 use Rattle.bgp_machine.specs.Lists.{Has}
-use Rattle.bgp_open.specs.Open.{OpenFields, open_of}
 use Rattle.bgp_recording.specs.Allowed.{Ended, Received, Sent, received_in, sent_in}
 use Rattle.bgp_recording.specs.Changes.{are_left, is_answered_before_open, just_received, just_sent, led_by_end, led_by_left, led_by_received, led_by_sent, state_then}
 use Rattle.bgp_recording.specs.Tells.{Event, Passed, items_in}
@@ -11,8 +10,8 @@ use Rattle.bgp_recording.specs.declared.message.Message.{Message}
 use Rattle.bgp_recording.specs.declared.standing.Before.{Before}
 use Rattle.bgp_recording.specs.declared.standing.Before.TheVariants.{Other}
 use Rattle.bgp_recording.specs.declared.state.State.{State}
-use Rattle.bgp_orders.specs.Ways.{changed_to, end_records, records_in, records_of_front, records_of_way, state_after_end}
-use Rattle.bgp_parts.specs.Confederations.{HasConfederation, ShowsConfederation, SomeShowConfederations}
+use Rattle.bgp_orders.specs.Ways.{changed_to, records_in, records_of_way, state_after_end}
+use Rattle.bgp_parts.specs.Confederations.{HasConfederation, SomeShowConfederations}
 use Rattle.bgp_parts.specs.Opens.{FirstReceived, FirstSent}
 use Rattle.bgp_check.specs.NotJudged.{SendsSome}
 use Rattle.bgp_check_tool.specs.Orders.{records_received, records_sent}

@@ -1,5 +1,5 @@
 -- What records of a connection have in common, whichever order they are in.
-use Rattle.std.proofs.Common.{◌≡◌, ◌∙◌, ◌⊎◌, ◌↔◌, ◌++◌, ℕ, Bool, true, false, IsTrue, List, [], ◌∷◌, Option, None, Some, ap, append-nil, inl, inr, length, map, option_map, refl, subst, sym}
+use Rattle.std.proofs.Common.{◌≡◌, ◌∙◌, ◌⊎◌, ◌↔◌, ℕ, Bool, true, false, IsTrue, List, [], ◌∷◌, Option, None, Some, ap, append-nil, inl, inr, length, map, option_map, refl, subst, sym}
 use Rattle.bgp_prefix.specs.Shown as shown
 use Rattle.bgp_prefix.specs.Shown.{ShownRecord}
 use Rattle.mrt.specs.Reader.{shown_of}
@@ -26,11 +26,11 @@ use Rattle.bgp_recording.specs.declared.state.State.{State}
 use Rattle.bgp_orders.specs.Connections.{TellsConnection}
 use Rattle.bgp_orders.specs.Explained.{IsExplained, IsWhole}
 use Rattle.bgp_orders.specs.WholeWays.{AreOfAWayOver}
-use Rattle.bgp_orders.specs.Ways.{IsWay, records_of_front, records_of_way}
+use Rattle.bgp_orders.specs.Ways.{IsWay, records_of_way}
 use Rattle.bgp_orders.proofs.Entries.{entries_show_the_way}
 use Rattle.bgp_orders.proofs.Ways.{opened_either, same_records}
 use Rattle.bgp_parts.specs.Confederations.{SomeShowConfederations}
-use Rattle.bgp_parts.specs.Opens.{FirstReceived, FirstSent, HasOwnOpen, HasPeersOpen, IsOpenMessage}
+use Rattle.bgp_parts.specs.Opens.{FirstReceived, FirstSent, IsOpenMessage}
 use Rattle.bgp_check.specs.NotJudged.{HasExtendedLength, IsWhyNot, SendsSome, why_not}
 use Rattle.bgp_check.specs.Stretch.{IsStretch}
 use Rattle.bgp_check.specs.WidestOf.{AreTold}

@@ -3,8 +3,6 @@ use Rattle.std.proofs.lemmas.Result.{IfOk-weaker}
 use Rattle.bgp_prefix.specs.Shown.{ShownRecord}
 use Rattle.mrt.specs.Reader.{shown_of}
 use Rattle.bgp_check.specs.Answered.{IsAnswerTo, answer_value}
-use Rattle.bgp_check_tool.specs.Another.{IsOfAnOrder}
-use Rattle.bgp_check_tool.specs.Made.{IsMade}
 use Rattle.bgp_check_tool.proofs.NoneLeft.{in_order, known_left, one_order, too_many}
 use Rattle.bgp_check_tool.proofs.ending.told_by.Goals as goal
 
