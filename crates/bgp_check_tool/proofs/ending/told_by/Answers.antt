@@ -37,7 +37,7 @@ returns-in-TooLong g c =
         is clocked made tt
         (λ one.
             inr
-            (too_many viewed.session viewed.options.within framings viewed.connection c.unknown.result c.unknown.ensures.wanting c.unknown.ensures.another
+            (too_many viewed.session viewed.options.within framings viewed.connection c.unknown-unknown.result c.unknown-unknown.ensures.wanting c.unknown-unknown.ensures.another
             (c.in-TooLong.ensures.found clocked
             (in_order viewed.session viewed.options.within framings viewed.connection recording.entries.items recording.received recording.sent first made answers)))))
     c.told_as_made-in-TooLong.ensures
