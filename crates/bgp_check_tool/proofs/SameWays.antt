@@ -271,8 +271,7 @@ same_values framings connection rs ss rs2 ss2 ru su ru2 su2 clocked heard said h
     let ends = own_end_is (IsTimed clock fraction) connection.end
     (end_by _ _ (λ e. IsTimed clocked.clock clocked.fractions.fraction (end_moment e)) connection.end (λ e g f. (g.0, f)) clocked.ends fractions.ends) in
     let same : AreSame connection.received connection.received = record { octets = refl; givers = λ place. refl } in
-    let same_sent : AreSame connection.sent connection.sent = record { octets = refl; givers = λ place. refl } in
-    (
+    let same_sent : AreSame connection.sent connection.sent = record { octets = refl; givers = λ place. refl } in (
       (heard_once framings.received clock fraction connection.received connection.received rs rs2 ru ru2 same came heard heard2).0,
       (said_once framings.sent clock fraction connection.sent connection.sent connection.end ss ss2 su su2 same_sent made ends said said2).0,
     )
@@ -308,8 +307,7 @@ module _ (framings : Framings) (connection : Connection) (clocked : IsClocked co
   other_way within start events way =
       let second : one.second ≡ other.second = tells.is.second ∙ sym tells2.is.second in
       let end : one.end ≡ other.end = tells.is.end ∙ sym tells2.is.end in
-      let k = other_order within one.second start one.received.now one.sent.now other.received.now other.sent.now one.end events values_received values_sent way.allowed way.timed in
-      (
+      let k = other_order within one.second start one.received.now one.sent.now other.received.now other.sent.now one.end events values_received values_sent way.allowed way.timed in (
         k.order,
         record {
           starts = starts_too start way.starts;

@@ -495,8 +495,7 @@ fn told_as_made<'a, A: Allocator + Copy, T: Tracker<A>>(
     let instead = OtherOrders::Unasked;
     let reached = reached_on::<A, T>(alloc, recording, &answer, before)?;
     let reason = reason_on::<A, T>(alloc, viewed, framings, recording, instead, &answer)?;
-    let beside =
-        Beside::of_made::<T>(alloc, viewed, made, &answer, over_all, lacks_memory, known)?;
+    let beside = Beside::of_made::<T>(alloc, viewed, made, &answer, over_all, lacks_memory, known)?;
     Ok(told_of(viewed, recording, answer, reached, reason, beside))
 }
 

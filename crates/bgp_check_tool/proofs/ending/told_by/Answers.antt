@@ -14,11 +14,11 @@ returns-in-Nothing g c =
     let answers = subst (λ (rs : List ShownRecord). IsAnswerTo viewed.session rs first) (ap (map shown_of) c.as_slice-records.ensures.value ∙ c.requires.records) c.in_ok-watched.ensures.answer in
     IfOk-weaker c.told_as_made.result _ _
     (λ told is clocked made.
-        is clocked made tt
-        (λ one.
-            absurd
-            (c.in-Nothing.ensures.found clocked
-            (in_order viewed.session viewed.options.within c.args.made.now.framings viewed.connection recording.entries.items recording.received recording.sent first made answers) (one_order first false one))))
+    is clocked made tt
+    (λ one.
+    absurd
+    (c.in-Nothing.ensures.found clocked
+    (in_order viewed.session viewed.options.within c.args.made.now.framings viewed.connection recording.entries.items recording.received recording.sent first made answers) (one_order first false one))))
     c.told_as_made.ensures
 
 pub returns-in-NoMemory : goal.returns-in-NoMemory
@@ -34,12 +34,12 @@ returns-in-TooLong g c =
     let answers = subst (λ (rs : List ShownRecord). IsAnswerTo viewed.session rs first) (ap (map shown_of) c.as_slice-records.ensures.value ∙ c.requires.records) c.in_ok-watched.ensures.answer in
     IfOk-weaker c.told_as_made-in-TooLong.result _ _
     (λ told is clocked made.
-        is clocked made tt
-        (λ one.
-            inr
-            (too_many viewed.session viewed.options.within framings viewed.connection c.unknown-unknown.result c.unknown-unknown.ensures.wanting c.unknown-unknown.ensures.another
-            (c.in-TooLong.ensures.found clocked
-            (in_order viewed.session viewed.options.within framings viewed.connection recording.entries.items recording.received recording.sent first made answers)))))
+    is clocked made tt
+    (λ one.
+    inr
+    (too_many viewed.session viewed.options.within framings viewed.connection c.unknown-unknown.result c.unknown-unknown.ensures.wanting c.unknown-unknown.ensures.another
+    (c.in-TooLong.ensures.found clocked
+    (in_order viewed.session viewed.options.within framings viewed.connection recording.entries.items recording.received recording.sent first made answers)))))
     c.told_as_made-in-TooLong.ensures
 
 pub returns-in-AsMade : goal.returns-in-AsMade
@@ -52,13 +52,13 @@ returns-in-AsMade g c =
     let its = c.in-AsMade.field-0 in
     IfOk-weaker c.told_as_made-in-AsMade.result _ _
     (λ told is clocked made.
-        is clocked made (
-          its.peer_as,
-          its.under,
-          c.in-AsMade.ensures.found clocked
-              (in_order viewed.session viewed.options.within framings viewed.connection recording.entries.items recording.received recording.sent first made answers),
-        )
-        (λ one. absurd (known_left first c.in-AsMade.ensures.sought one)))
+    is clocked made (
+      its.peer_as,
+      its.under,
+      c.in-AsMade.ensures.found clocked
+          (in_order viewed.session viewed.options.within framings viewed.connection recording.entries.items recording.received recording.sent first made answers),
+    )
+    (λ one. absurd (known_left first c.in-AsMade.ensures.sought one)))
     c.told_as_made-in-AsMade.ensures
 
 pub returns-in-NoOrder : goal.returns-in-NoOrder
@@ -70,9 +70,9 @@ returns-in-NoOrder g c =
     let answers = subst (λ (rs : List ShownRecord). IsAnswerTo viewed.session rs first) (ap (map shown_of) c.as_slice-records.ensures.value ∙ c.requires.records) c.in_ok-watched.ensures.answer in
     IfOk-weaker c.told_of_found.result _ _
     (λ told is clocked made.
-        is clocked made
-        (c.in-NoOrder.ensures.found clocked
-        (in_order viewed.session viewed.options.within framings viewed.connection recording.entries.items recording.received recording.sent first made answers)))
+    is clocked made
+    (c.in-NoOrder.ensures.found clocked
+    (in_order viewed.session viewed.options.within framings viewed.connection recording.entries.items recording.received recording.sent first made answers)))
     c.told_of_found.ensures
 
 pub returns-in-Unfinished : goal.returns-in-Unfinished
@@ -84,9 +84,9 @@ returns-in-Unfinished g c =
     let answers = subst (λ (rs : List ShownRecord). IsAnswerTo viewed.session rs first) (ap (map shown_of) c.as_slice-records.ensures.value ∙ c.requires.records) c.in_ok-watched.ensures.answer in
     IfOk-weaker c.told_over_all.result _ _
     (λ told is clocked made.
-        is clocked made
-        (c.in-Unfinished.ensures.found clocked
-        (in_order viewed.session viewed.options.within framings viewed.connection recording.entries.items recording.received recording.sent first made answers)))
+    is clocked made
+    (c.in-Unfinished.ensures.found clocked
+    (in_order viewed.session viewed.options.within framings viewed.connection recording.entries.items recording.received recording.sent first made answers)))
     c.told_over_all.ensures
 
 pub returns : goal.returns
@@ -99,7 +99,7 @@ returns g c =
     let found = c.in-Another.ensures in
     IfOk-weaker c.told_of_another.result _ _
     (λ told is clocked made.
-        is recording.entries.items recording.received recording.sent first made answers found.sought.0
-        (found.found clocked
-        (in_order viewed.session viewed.options.within framings viewed.connection recording.entries.items recording.received recording.sent first made answers)))
+    is recording.entries.items recording.received recording.sent first made answers found.sought.0
+    (found.found clocked
+    (in_order viewed.session viewed.options.within framings viewed.connection recording.entries.items recording.received recording.sent first made answers)))
     c.told_of_another.ensures

@@ -11,8 +11,8 @@ returns-in-None g c =
     none_is c.in_ok-about.field-0 (NeverUnexplained recording.entries.items c.args.found) c.in-None.is c.in_ok-about.ensures.none in
     IfOk-weaker c.told_as_made.result _ _
     (λ told is clocked made unexplained.
-        is clocked made tt
-        (λ one.
-            absurd
-            (never viewed.session viewed.options.within c.args.made.now.framings viewed.connection recording.received recording.sent clocked made.recorded.told unexplained)))
+    is clocked made tt
+    (λ one.
+    absurd
+    (never viewed.session viewed.options.within c.args.made.now.framings viewed.connection recording.received recording.sent clocked made.recorded.told unexplained)))
     c.told_as_made.ensures
