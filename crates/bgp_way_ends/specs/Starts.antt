@@ -1,5 +1,6 @@
--- The four starts of a session, in the standard's terms. A way has two of them; that these are
--- enough is a law.
+-- The four starts of a session, in the standard's terms, but for one row: with the own OPEN delayed
+-- in Connect, the end of the connection leads to Active (event 18), and here to Idle as from the
+-- others. A way begins in one of two of them; that these are enough is a law.
 use Rattle.std.specs.Prelude.{◌≡◌, ◌<◌, ◌+◌, ◌++◌, ◌↔◌, ◌||◌, if◌then◌else◌, ℕ, Bool, true, false}
 use Rattle.std.specs.Prelude.{List, [], ◌∷◌, Option, None, Some, length}
 use Rattle.bgp_prefix.specs.Shown as shown

@@ -87,7 +87,8 @@ pub fn a_made_unfinished_is_no_no()
 {}
 
 /// States that the two starts of a way are enough. The standard has four: Connect or Active before
-/// the own OPEN (RFC 4271, 8.2.2), and the own OPEN delayed or not (DelayOpen). Of what packets
+/// the own OPEN (RFC 4271, 8.2.2), and the own OPEN delayed or not (DelayOpen). The end of a
+/// connection leads to Idle from each of them (by the standard to Active from a delayed Connect). Of what packets
 /// tell of a connection, so many messages are explained from one of the four exactly where some way
 /// explains them, the session can have ended so from one of them exactly where some way is whole
 /// and ends so, and the verdict over all ways is that from the four.
