@@ -5,6 +5,10 @@ pub mod OneMore
 pub mod AllTold
 pub mod Stretch
 pub mod WayRecords
+pub mod SameWays
+pub mod WayMessages
+pub mod WaysOf
+pub mod NoneLeft
 pub mod SaidOver
 pub mod NoOrder
 pub mod TellingEnd

@@ -1,6 +1,5 @@
 -- Marks are added one after another.
 use Rattle.std.proofs.Common.{◌≡◌, ◌∙◌, ◌++◌, ℕ, List, [], ◌∷◌, append-nil, append_assoc, ap, subst, sym}
-use Rattle.std.specs.List.{flat_map}
 use Rattle.bgp_check_lines.specs.Printing.{Printing}
 use Rattle.bgp_check_tool.specs.Blocks.{Block}
 use Rattle.bgp_check_tool.specs.Marks.{AddsMarks, block_marks, marks_of}

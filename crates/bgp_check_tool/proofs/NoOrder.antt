@@ -190,7 +190,7 @@ firsts : {X : Type 0} (P Q : X → Type 0) (xs : List X) → Each (λ x. P x × 
 firsts P Q [] each = tt
 firsts P Q (x ∷ xs) each = (each.0.0, firsts P Q xs each.1)
 
-each_is_of : (session : Session) (own peers : Option (List ℕ)) (widest : List Config) → AreWidest session own peers widest → Each (λ config. IsOf session own config) widest
+pub each_is_of : (session : Session) (own peers : Option (List ℕ)) (widest : List Config) → AreWidest session own peers widest → Each (λ config. IsOf session own config) widest
 each_is_of session (Some own) peers widest are = firsts _ _ widest are.each
 each_is_of session None peers widest are = firsts _ _ widest are.each
 

@@ -1,5 +1,5 @@
 -- What the lines of an end are worth.
-use Rattle.std.proofs.Common.{◌≡◌, ◌∙◌, ◌<◌, ◌++◌, ◌⊎◌, inl, inr, ℕ, zero, suc, Bool, true, List, [], ◌∷◌, Option, None, Some, codes, refl, reverse, sym, ap, subst, arith, length, take}
+use Rattle.std.proofs.Common.{◌≡◌, ◌∙◌, ◌<◌, ◌++◌, ◌⊎◌, inl, inr, ℕ, zero, suc, Bool, true, false, List, [], ◌∷◌, Option, None, Some, codes, refl, reverse, sym, ap, subst, arith, length, take}
 use Rattle.std.specs.List.{AllByRecursion, slice_get}
 use Rattle.packets.specs.Packet.{Recorded}
 use Rattle.bgp_prefix.specs.Shown.{ShownRecord}
@@ -48,9 +48,10 @@ use Rattle.bgp_check_tool.specs.Places.{IsToldAt, IsToldOfOne}
 use Rattle.bgp_check_tool.specs.Printed.{AreRecordsOf, AreRecordsOfAWay, HasRecords, HasRecordsIn, HasRecordsSo, HasTrueNoes, HasTrueUnfinished, HasTrueYes, HasVerdictIn, IsTrueNo, IsTrueOverall, IsUnfinishedOverAll, NoesAreTrue, ToldNoesAreTrue, ToldUnfinishedAreTrue, ToldVerdictIsOverAll, ToldYesesAreTrue, UnfinishedAreTrue, YesesAreTrue}
 use Rattle.bgp_check_tool.specs.Seen.{seen_from, session_from}
 use Rattle.bgp_check_tool.specs.Text.{after_no, after_unfinished, after_yes, answer_text, deed_by, name_of, name_with, told_lines}
-use Rattle.bgp_check_tool.specs.Told.{EndTold, IsEndTold, IsOfAll, IsOfAnother, IsOfMade, place_for, place_of}
+use Rattle.bgp_check_tool.specs.Orders.{IsFoundTo}
+use Rattle.bgp_check_tool.specs.Told.{EndTold, IsEndTold, IsForCause, IsOfAll, IsOfAnother, IsOfMade, IsOfOneOrder, place_for, place_of}
 use Rattle.bgp_check_tool.proofs.NoOrder.{well_formed}
-use Rattle.bgp_check_tool.proofs.TellingEnd.{no_of_made, unfinished_of, yes_of}
+use Rattle.bgp_check_tool.proofs.TellingEnd.{no_of_made, over_all_orders, unfinished_of, yes_of}
 use Rattle.bgp_check_tool.proofs.Verdicts.{no_run, over_answer, side_told, verdict_is}
 
 -- ---- which lines begin with `no`
@@ -355,7 +356,7 @@ module _ (options : CheckOptions) (packets : List Recorded) (last_packet place :
   -- or in one
   true_no : NoConfigurationExplains → HasItsVerdict → (side : Side) (told : EndTold) (end : IsEndTold options (asked side) session opening both.connection side told) (denied : IsNo told.answer)
       → told.found ≡ None → IsTrueNo options packets last_packet session opening side told
-  unfolding no_lines
+  unfolding no_records records_so no_lines
   true_no explains has_verdict side told end denied none =
       let its = session_from side session in
       let records = records_of end.entries in
@@ -371,6 +372,7 @@ module _ (options : CheckOptions) (packets : List Recorded) (last_packet place :
         impossible = stands.impossible;
         stands = stands.is;
         not_found = none;
+        cause = end.has_cause made.is_order none (subst (λ (a : AnswerValue). IsOfOneOrder a told.over_all) (sym denied.is) tt);
         number = told.as_number;
         has_number = end.is_number;
         named = no_named side told end denied (place_at end.entries denied.count) (ap (λ (f : Option NoOrder). place_for (No denied.count) f end.entries) none);
@@ -425,12 +427,22 @@ module _ (options : CheckOptions) (packets : List Recorded) (last_packet place :
 
   -- ---- what is unfinished
 
+  -- the records of the made order, and why it is told of that alone
   made_records : (side : Side) (told : EndTold) (end : IsEndTold options (asked side) session opening both.connection side told) (it : IsUnfinished told.answer)
-      → HasRecords options packets last_packet session opening side end.entries
+      → (has : HasRecords options packets last_packet session opening side end.entries)
+      × (told.order ≡ orders.Made → told.over_all ≡ false
+      → IsForCause (session_from side session) options.within has.are_records.framings (seen_from side has.connection) told.lacks_memory)
+  unfolding records_so
   made_records side told end it =
-      elim (unfinished_of options (asked side) (end_of side session opening) (session_from side session) (seen_from side both.connection) told end it.number it.peer it.under it.is) [
-        | inl of ↦ records_so side told end of.made
-        | inr of ↦ records_so side told end of.made
+      let its = session_from side session in
+      let seen = seen_from side both.connection in
+      let none : told.found ≡ None = subst (λ (a : AnswerValue). IsFoundTo its options.within end.framings seen a told.found) it.is end.is_found in
+      elim (unfinished_of options (asked side) (end_of side session opening) its seen told end it.number it.peer it.under it.is) [
+        | inl of ↦ (
+          records_so side told end of.made,
+          λ is_made not_known. end.has_cause is_made none (subst (λ (a : AnswerValue). IsOfOneOrder a told.over_all) (sym it.is) not_known),
+        )
+        | inr of ↦ (records_so side told end of.made, λ is_made not_known. absurd (over_all_orders told.order of.is_order is_made))
       ]
 
   -- so that none is whole, if that is known
@@ -451,13 +463,14 @@ module _ (options : CheckOptions) (packets : List Recorded) (last_packet place :
       let place : told.place ≡ last_place end.entries = end.is_place ∙ ap (λ (a : AnswerValue). place_of a told.found end.entries) it.is in
       record {
         entries = end.entries;
-        has_records = made_records side told end it;
+        has_records = (made_records side told end it).0;
         number = told.as_number;
         has_number = end.is_number;
         named = subst (λ (e : Endpoint). told_lines options.printing.routes told ≡ unfinished_lines told (last_place end.entries) e) end.is_end
             (subst (λ (p : Place). told_lines options.printing.routes told ≡ unfinished_lines told p told.end) place text);
         verdict = verdict_in side told end it.number it.peer it.under law Unfinished it.is;
         known = known_unfinished law side told end it;
+        cause = (made_records side told end it).1;
       }
 
 pub unfinished_are_true : NoneIsWhole → ToldUnfinishedAreTrue
@@ -542,6 +555,7 @@ records_in_as orders.Another stopped options packets last_packet session opening
 
 true_as : (stopped : Option WhyRefused) (options : CheckOptions) (packets : List Recorded) (last_packet : ℕ) (session : Session) (opening : Opening) (side : Side) (told : EndTold)
     → IsTrueNo (options_by stopped options) packets last_packet session opening side told → IsTrueNo options packets last_packet session opening side told
+unfolding records_as
 true_as stopped options packets last_packet session opening side told it = record {
   entries = it.entries;
   has_records = records_as AreRecordsOf stopped options packets last_packet session opening side it.entries it.has_records;
@@ -549,6 +563,7 @@ true_as stopped options packets last_packet session opening side told it = recor
   impossible = it.impossible;
   stands = it.stands;
   not_found = it.not_found;
+  cause = it.cause;
   number = it.number;
   has_number = it.has_number;
   named = it.named;
@@ -660,6 +675,7 @@ verdict_in_as orders.All stopped options packets last_packet session opening sid
 
 unfinished_as : (stopped : Option WhyRefused) (options : CheckOptions) (packets : List Recorded) (last_packet : ℕ) (session : Session) (opening : Opening) (side : Side) (told : EndTold)
     → HasTrueUnfinished (options_by stopped options) packets last_packet session opening side told → HasTrueUnfinished options packets last_packet session opening side told
+unfolding records_as
 unfinished_as stopped options packets last_packet session opening side told has begins =
     let it = has begins in
     record {
@@ -670,6 +686,7 @@ unfinished_as stopped options packets last_packet session opening side told has 
       named = it.named;
       verdict = verdict_in_as told.order stopped options packets last_packet session opening side it.verdict;
       known = λ known. over_all_as stopped options packets last_packet session opening side (it.known known);
+      cause = it.cause;
     }
 
 both_unfinished_as : (stopped : Option WhyRefused) (options : CheckOptions) (packets : List Recorded) (last_packet : ℕ) (block : Block)

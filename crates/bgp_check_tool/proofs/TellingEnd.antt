@@ -1,5 +1,5 @@
 -- What is told of an end, by the order in which it is told.
-use Rattle.std.proofs.Common.{◌≡◌, ◌∙◌, ◌⊎◌, true, ℕ, List, [], Option, None, Some, IfSome, ap, inl, inr, sym, subst, refl}
+use Rattle.std.proofs.Common.{◌≡◌, ◌∙◌, ◌⊎◌, Bool, true, ℕ, List, [], Option, None, Some, IfSome, ap, inl, inr, sym, subst, refl}
 use Rattle.bgp_prefix.specs.Shown.{ShownRecord}
 use Rattle.bgp_prefix.specs.declared.session.Session.{Session}
 use Rattle.segments.specs.declared.found.Endpoint.{Endpoint}
@@ -29,7 +29,9 @@ use Rattle.bgp_check_tool.specs.About.{IsAbout}
 use Rattle.bgp_check_tool.specs.Another.{IsNo, IsYes}
 use Rattle.bgp_check_tool.specs.Late.{IsLate}
 use Rattle.bgp_check_tool.specs.Orders.{IsFoundTo, IsKnown, IsUnexplained, IsUnfinished}
-use Rattle.bgp_check_tool.specs.Told.{EndTold, IsOfAll, IsOfAnother, IsOfMade, IsTold, peer_end, place_of}
+use Rattle.bgp_check_tool.specs.declared.another.Order.{Order}
+use Rattle.bgp_check_tool.specs.declared.another.Order.TheVariants as orders
+use Rattle.bgp_check_tool.specs.Told.{EndTold, HasCause, IsOfAll, IsOfAnother, IsOfMade, IsTold, peer_end, place_of}
 use Rattle.bgp_check_lines.specs.AsNumber.{HasAsNumber}
 use Rattle.bgp_check_tool.specs.Elsewhere.{IsOther, in_made}
 use Rattle.bgp_wire.specs.declared.header.Limit.{Limit}
@@ -174,6 +176,23 @@ pub nothing_instead : (within : ℕ) (framings : Framings) (connection : Connect
 nothing_instead within framings connection entries answer found none =
     subst (λ (f : Option NoOrder). AreInstead within framings connection entries answer f Unasked) (sym none) refl
 
+-- what isn't told of the made order, or of a message that no order explains, needs no cause
+pub another_order : (order : Order) → order ≡ orders.Another → order ≡ orders.Made → ⊥
+another_order order is made = cc
+
+pub over_all_orders : (order : Order) → order ≡ orders.All → order ≡ orders.Made → ⊥
+over_all_orders order is made = cc
+
+pub some_found : (found : Option NoOrder) (unexplained : NoOrder) → found ≡ Some unexplained → found ≡ None → ⊥
+some_found found unexplained some none = cc
+
+-- why the made order is told
+pub cause_so : (session : Session) (within : ℕ) (framings : Framings) (connection : Connection) (answer : AnswerValue) (over_all over_all' lacks lacks' : Bool) → over_all ≡ over_all' → lacks ≡ lacks'
+    → HasCause session within framings connection answer over_all' lacks' → HasCause session within framings connection answer over_all lacks
+cause_so session within framings connection answer over_all over_all' lacks lacks' same_over same_lacks cause =
+    subst (λ (b : Bool). HasCause session within framings connection answer b lacks) (sym same_over)
+    (subst (λ (b : Bool). HasCause session within framings connection answer over_all' b) (sym same_lacks) cause)
+
 -- how far the session came
 pub reached_so : (records : List ShownRecord) (answer : AnswerValue) (reached reached' : ReachedValue) → reached ≡ reached' → IsReached records answer reached' → IsReached records answer reached
 reached_so records answer reached reached' same is = subst (λ (r : ReachedValue). IsReached records answer r) (sym same) is
@@ -196,7 +215,8 @@ pub told_so : (options : CheckOptions) (asked : Asked) (end : Endpoint) (session
     ⊎ IsOfAnother options asked session connection framings entries received sent answer about told
     ⊎ IsOfAll options asked session connection framings entries received sent answer about told
     → told.end ≡ end → HasAsNumber (records_of entries) told.as_number
-    → IsFoundTo session options.within framings connection its told.found → IsKnown session options.within framings connection told.over_all → told.place ≡ place_of its told.found entries
+    → IsFoundTo session options.within framings connection its told.found → IsKnown session options.within framings connection told.over_all
+    → (told.order ≡ orders.Made → told.found ≡ None → HasCause session options.within framings connection its told.over_all told.lacks_memory) → told.place ≡ place_of its told.found entries
     → IsOther session framings.sent.limit (peer_end session connection) (records_of entries) told.found told.in_made told.other → told.first ≡ second_at entries 0
     → told.put_off ≡ put_off 0 entries → told.within ≡ options.within
     → IsLate session connection its told.late → IsReached (records_of entries) its told.reached
@@ -204,7 +224,7 @@ pub told_so : (options : CheckOptions) (asked : Asked) (end : Endpoint) (session
     → IsReasonTo session framings.sent.limit (second_at entries 0) true (peer_end session connection) (shown_places entries) instead (records_of entries) about told.deed told.reason
     → told.received ≡ received → told.sent ≡ sent
     → IsTold options asked end session connection told
-told_so options asked end session connection framings entries received sent told answer about its same answers is_about are_of is_end is_number is_found is_known is_place is_other is_first is_put_off is_within is_late is_reached instead are_instead explains
+told_so options asked end session connection framings entries received sent told answer about its same answers is_about are_of is_end is_number is_found is_known has_cause is_place is_other is_first is_put_off is_within is_late is_reached instead are_instead explains
     is_received is_sent =
     record {
       entries = entries;
@@ -220,6 +240,7 @@ told_so options asked end session connection framings entries received sent told
       is_number = is_number;
       is_found = subst (λ (a : AnswerValue). IsFoundTo session options.within framings connection a told.found) (sym same) is_found;
       is_known = is_known;
+      has_cause = λ made none. subst (λ (a : AnswerValue). HasCause session options.within framings connection a told.over_all told.lacks_memory) (sym same) (has_cause made none);
       is_place = is_place ∙ ap (λ (a : AnswerValue). place_of a told.found entries) (sym same);
       is_other = is_other;
       is_first = is_first;

@@ -1,5 +1,6 @@
 -- What a verdict on an end is worth.
 use Rattle.std.proofs.Common.{◌≡◌, ◌∙◌, Bool, true, false, IsTrue, ℕ, List, Option, None, Some, IfSome, option_map, inl, inr, refl, reverse, sym, subst}
+use Rattle.std.proofs.lemmas.Bool.{false≢true}
 use Rattle.bgp_prefix.specs.Shown.{ShownRecord}
 use Rattle.bgp_prefix.specs.declared.session.Session.{Session}
 use Rattle.bgp_open.specs.Open.{OpenFields, open_of}
@@ -24,7 +25,7 @@ use Rattle.bgp_check_lines.specs.Asked.{asked_of}
 use Rattle.bgp_check_lines.specs.DeclaredAsked.{Asked}
 use Rattle.streams.specs.Connections.{numbered}
 use Rattle.bgp_check_tool.specs.declared.options.CheckOptions.{CheckOptions}
-use Rattle.bgp_check_tool.specs.Headline.{IsToldOfSide, NoConfigurationHasARun, NoOrderHasARun, NoneIsWhole, NothingIsVacuous, ToldNoHasNoRun, VerdictIsOverAll}
+use Rattle.bgp_check_tool.specs.Headline.{IsToldOfSide, NoConfigurationHasARun, NoOrderHasARun, NoneIsWhole, NothingIsVacuous, OneOrderHasACause, ToldNoHasNoRun, VerdictIsOverAll}
 use Rattle.bgp_check_tool.specs.Orders.{IsFoundTo, IsUnexplained, UnexplainedByAll, UnfinishedByAll}
 use Rattle.bgp_check_tool.specs.declared.orders.NoOrder.{NoOrder}
 use Rattle.bgp_check_tool.specs.Seen.{seen_from, session_from}
@@ -118,6 +119,14 @@ not_vacuous options asked session opening connection side told number peer under
         | inr of ↦ judged_sends its records end.answer of.is_no end.answers
       ],
     )
+
+-- ---- why one order is told
+
+pub for_a_cause : OneOrderHasACause
+for_a_cause options asked session opening connection side told end made none one enough = elim (end.has_cause made none one) [
+  | inl lacks ↦ absurd (false≢true (sym enough ∙ lacks))
+  | inr many ↦ many
+]
 
 -- ---- of a no that is told of a recording
 

@@ -1,20 +1,20 @@
 -- What is told of an end in another order than the made one, or over all of them.
-use Rattle.std.specs.Prelude.{◌≡◌, ◌⊎◌, ℕ, Option, None, map}
+use Rattle.std.specs.Prelude.{◌≡◌, ℕ, List, Option, None, map}
 use Rattle.bgp_prefix.specs.declared.session.Session.{Session}
 use Rattle.mrt.specs.Reader.{shown_of}
 use Rattle.streams.specs.declared.connection.Connection.{Connection}
-use Rattle.bgp_open.specs.declared.config.Config.{Config}
 use Rattle.bgp_judge.specs.Verdict.{No, Unfinished, Yes}
 use Rattle.bgp_recording.specs.Captured.{records_of}
+use Rattle.bgp_recording.specs.Recorded.{IsRecorded}
+use Rattle.bgp_recording.specs.declared.entry.Entry.{Entry}
 use Rattle.bgp_recording.specs.declared.framing.Framings.{Framings}
+use Rattle.bgp_recording.specs.declared.framing.Unshown.{Unshown}
 use Rattle.bgp_orders.specs.WholeWays.{AreOfAWayOver}
 use Rattle.bgp_check.specs.Answered.{AnswerValue, IsAnswerTo, JudgedAs, Unjudged, answer_value}
 use Rattle.bgp_check_tool.specs.declared.another.Searched.{Searched}
 use Rattle.bgp_check_tool.specs.declared.another.Searched.TheVariants as searches
-use Rattle.bgp_check_tool.specs.declared.orders.NoOrder.{NoOrder}
 use Rattle.bgp_check_tool.specs.declared.orders.TooLong.{TooLong}
-use Rattle.bgp_check_tool.specs.Orders.{IsOfNoFamily, IsTooLongOver, IsUnexplained, IsUnfinished}
-use Rattle.bgp_check_tool.specs.Orders.{IsWholeOver}
+use Rattle.bgp_check_tool.specs.Orders.{IsTooLongOver, IsUnexplained, IsUnfinished}
 
 -- ---- answers
 
@@ -69,24 +69,22 @@ IsSought session answer (searches.Another another) =
     (answer_value another.answer)
     × IsYes (answer_value another.answer)
 
--- Over all orders nothing is found that replaces this answer on the made one: it is a yes
--- or none is judged; or some order is whole under a widest configuration, and the records of such a
--- one aren't judged with a yes; or no order explains a sent message, where the made one is
--- unfinished; or the end has no widest configuration.
-abbrev pub IsNothing : Session → ℕ → Framings → Connection → AnswerValue → Type 0
-IsNothing session within framings connection answer =
-    (¬ IsNoYes answer)
-    ⊎ ((config : Config) × IsWholeOver session within framings connection config)
-    ⊎ (IsLeft answer
-    × ((found : NoOrder) × IsUnexplained session within framings connection found))
-    ⊎ IsOfNoFamily session within framings connection
+-- this is answered of the end's records in an order that the packets allow, as the made one is
+pub record IsOfAnOrder (session : Session) (within : ℕ) (framings : Framings)
+    (connection : Connection) (answer : AnswerValue) : Type 0 where
+  pub entries : List Entry
+  pub received_unshown : Unshown
+  pub sent_unshown : Unshown
+  pub recorded : IsRecorded framings within connection entries received_unshown sent_unshown
+  pub answers : IsAnswerTo session (records_of entries) answer
 
--- The other order is one that the packets allow. If memory is refused nothing is found, and if the
--- search is too long, as was known under these configurations or is found.
+-- Where this is answered of the made order, nothing is asked of the others if that is a yes, or no
+-- judgement; and nothing is found if memory is refused for the search, or if it is too long, as was
+-- known under these configurations or is found. The other order is one that the packets allow.
 abbrev pub IsFound : {X : Type 0} → Session → ℕ → Framings → Connection → TooLong → AnswerValue
     → Searched X → Type 0
 IsFound session within framings connection known answer searches.Nothing =
-    IsNothing session within framings connection answer
+    ¬ IsNoYes answer
 IsFound session within framings connection known answer searches.NoMemory = Unit {0}
 IsFound session within framings connection known answer (searches.TooLong its) =
     IsTooLongOver session within framings connection known

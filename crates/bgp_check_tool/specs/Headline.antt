@@ -1,5 +1,6 @@
 -- What a verdict on an end is worth.
-use Rattle.std.specs.Prelude.{◌≡◌, ◌⊎◌, ◌+◌, true, ℕ, List, Option, Some, reverse, take}
+use Rattle.std.specs.Prelude.{◌≡◌, ◌⊎◌, ◌+◌, true, false, ℕ, List, Option, None, Some, reverse}
+use Rattle.std.specs.Prelude.{take}
 use Rattle.packets.specs.Packet.{Recorded}
 use Rattle.bgp_prefix.specs.declared.session.Session.{Session}
 use Rattle.bgp_open.specs.declared.config.Config.{Config}
@@ -31,13 +32,13 @@ use Rattle.bgp_check_tool.specs.declared.another.Order.TheVariants as orders
 use Rattle.bgp_check_tool.specs.declared.options.CheckOptions.{CheckOptions}
 use Rattle.bgp_check_tool.specs.Blocks.{BothEnds}
 use Rattle.bgp_check_tool.specs.Made.{IsMade}
-use Rattle.bgp_check_tool.specs.Orders.{NoOrderExplains, NoOrderIsWhole}
+use Rattle.bgp_check_tool.specs.Orders.{AreTooManyOver, NoOrderExplains, NoOrderIsWhole}
 use Rattle.bgp_check_tool.specs.declared.orders.NoOrder.{NoOrder}
 use Rattle.bgp_import.specs.Pairs.{session_of}
 use Rattle.bgp_import.specs.Places.{HasConnection}
 use Rattle.bgp_check_tool.specs.Places.{IsToldAt}
 use Rattle.bgp_check_tool.specs.Seen.{seen_from, session_from}
-use Rattle.bgp_check_tool.specs.Told.{EndTold, IsEndTold}
+use Rattle.bgp_check_tool.specs.Told.{EndTold, IsEndTold, IsOfOneOrder}
 
 -- What is told of an end is told of a stretch, so that the verdict is the one over all
 -- configurations under which the OPEN that the end sent is its own, where that has no own fault. Or
@@ -88,6 +89,19 @@ NoneIsWhole =
     (end : IsEndTold options asked session opening connection side told)
     → told.over_all ≡ true
     → NoOrderIsWhole (session_from side session) options.within end.framings
+    (seen_from side connection)
+
+-- A no or an unfinished that isn't known to hold over all orders is told of one only if more nodes
+-- are reached, under one of the end's widest configurations, than the search over all looks at. So
+-- it is unless memory is refused for that search.
+abbrev pub OneOrderHasACause : Type 0
+OneOrderHasACause =
+    (options : CheckOptions) (asked : Asked) (session : Session) (opening : Opening)
+    (connection : Connection) (side : Side) (told : EndTold)
+    (end : IsEndTold options asked session opening connection side told)
+    → told.order ≡ orders.Made → told.found ≡ None → IsOfOneOrder told.answer told.over_all
+    → told.lacks_memory ≡ false
+    → AreTooManyOver (session_from side session) options.within end.framings
     (seen_from side connection)
 
 -- A verdict is told only of records with a sent message, the first of which leaves Idle.

@@ -1,5 +1,5 @@
 -- What is known of the ends whose answers are printed: where a no stands.
-use Rattle.std.specs.Prelude.{◌≡◌, ◌++◌, ℕ, List, [], ◌∷◌, Option, None, Some, IsFalse}
+use Rattle.std.specs.Prelude.{◌≡◌, ◌++◌, ℕ, Bool, List, [], ◌∷◌, Option, None, Some, IsFalse}
 use Rattle.std.specs.Prelude.{if◌then◌else◌}
 use Rattle.std.specs.List.{flat_map}
 use Rattle.bgp_judge.specs.Verdict.{No, Unfinished, VerdictValue, Yes}
@@ -24,16 +24,16 @@ no_at (No count) (Some found) = noes.Message found.unexplained.before
 no_at Unfinished found = noes.Nowhere
 
 -- of an end that is judged
-abbrev pub mark_by : AnswerValue → Order → Option NoOrder → Option EndMark
-mark_by (Unjudged why) order found = None
-mark_by (JudgedAs number peer under verdict) order found =
-    Some (record { order = order; no = no_at verdict found })
+abbrev pub mark_by : AnswerValue → Order → Bool → Option NoOrder → Option EndMark
+mark_by (Unjudged why) order lacks_memory found = None
+mark_by (JudgedAs number peer under verdict) order lacks_memory found =
+    Some (record { order = order; no = no_at verdict found; lacks_memory = lacks_memory })
 
 -- and isn't left out
 abbrev pub end_mark : Printing → EndTold → Option EndMark
 end_mark printing told =
     if is_left_out printing.quiet told.answer then None
-    else mark_by told.answer told.order told.found
+    else mark_by told.answer told.order told.lacks_memory told.found
 
 -- of both ends of a connection
 abbrev pub block_marks : Printing → Block → List BothMarks

@@ -205,7 +205,15 @@ module _ (session : Session) (within : ℕ) (framings : Framings) (connection : 
   IsWholeOver config = IsOfWidest
       (λ exchange wants under. (config ≡ under) × HasVerdictOver under within exchange Yes)
 
-  -- there are too many nodes under one of them, or that was known before
+  -- this is one of them
+  abbrev pub IsAWidest : Config → Type 0
+  IsAWidest config = IsOfWidest (λ exchange wants under. config ≡ under)
+
+  -- under one of them more nodes are reached than the search looks at
+  abbrev pub AreTooManyOver : Type 0
+  AreTooManyOver = IsOfWidest (λ exchange wants under. AreTooMany under within exchange)
+
+  -- so it is, or that was known before
   abbrev pub IsTooLongOver : TooLong → Type 0
   IsTooLongOver known = IsOfWidest (λ exchange wants under.
       (known_of known wants ≡ true) ⊎ AreTooMany under within exchange)

@@ -1,6 +1,6 @@
 -- What the lines of an end are worth: a verdict that is printed of a recording.
-use Rattle.std.specs.Prelude.{◌≡◌, ◌≢◌, ◌<◌, ◌+◌, ◌++◌, ◌⊎◌, ℕ, Bool, true, List, [], Option}
-use Rattle.std.specs.Prelude.{None, Some, codes, reverse, take}
+use Rattle.std.specs.Prelude.{◌≡◌, ◌≢◌, ◌<◌, ◌+◌, ◌++◌, ◌⊎◌, ℕ, Bool, true, false, List, []}
+use Rattle.std.specs.Prelude.{Option, None, Some, codes, reverse, take}
 use Rattle.std.specs.List.{AllByRecursion, slice_get}
 use Rattle.packets.specs.Packet.{Recorded}
 use Rattle.bgp_prefix.specs.declared.session.Session.{Session}
@@ -56,7 +56,7 @@ use Rattle.bgp_check_tool.specs.Places.{IsToldAt}
 use Rattle.bgp_check_tool.specs.Seen.{seen_from, session_from}
 use Rattle.bgp_check_tool.specs.Text.{after_no, after_unfinished, after_yes, deed_by}
 use Rattle.bgp_check_tool.specs.Text.{name_with, told_lines}
-use Rattle.bgp_check_tool.specs.Told.{EndTold}
+use Rattle.bgp_check_tool.specs.Told.{EndTold, IsForCause}
 
 -- ---- the records of an end
 
@@ -174,7 +174,8 @@ BeginWith word routes told = (rest : List ℕ) × (told_lines routes told ≡ wo
 -- them. Some run under one of these configurations shows those before it, if there is such a
 -- configuration: it is the record at which no run goes on. If there is none, for a fault of the
 -- OPEN, no record behind that OPEN is named. All of that is said of one order of the records, as a
--- note says.
+-- note says. That is so only if memory is refused for the search over all orders, or if more nodes
+-- are reached than it looks at.
 pub record IsTrueNo (options : CheckOptions) (packets : List Recorded) (last_packet : ℕ)
     (session : Session) (opening : Opening) (side : Side) (told : EndTold) : Type 0 where
   pub entries : List Entry
@@ -183,6 +184,8 @@ pub record IsTrueNo (options : CheckOptions) (packets : List Recorded) (last_pac
   pub impossible : Entry
   pub stands : slice_get entries count ≡ Some impossible
   pub not_found : told.found ≡ None
+  pub cause : IsForCause (session_from side session) options.within
+      has_records.are_records.framings (seen_from side has_records.connection) told.lacks_memory
   pub number : Option ℕ
   pub has_number : HasAsNumber (records_of entries) number
   pub named : told_lines options.printing.routes told
@@ -286,7 +289,8 @@ YesesAreTrue options packets last_packet (AllRefused addresses refusal) = Unit {
 
 -- They name this end, and the packet and the second of its last record in the made order. The
 -- verdict is that on its records in that order. Or it is so over all orders that the packets allow,
--- and then a note says so. If no note says that one order was judged, it is so over all of them.
+-- and then a note says so. If no note says that one order was judged, it is so over all of them. One
+-- says so only for a cause, as of a no.
 pub record IsTrueUnfinished (options : CheckOptions) (packets : List Recorded) (last_packet : ℕ)
     (session : Session) (opening : Opening) (side : Side) (told : EndTold) : Type 0 where
   pub entries : List Entry
@@ -300,6 +304,9 @@ pub record IsTrueUnfinished (options : CheckOptions) (packets : List Recorded) (
       Unfinished
   pub known : told.over_all ≡ true
       → IsUnfinishedOverAll options packets last_packet session opening side
+  pub cause : told.order ≡ orders.Made → told.over_all ≡ false
+      → IsForCause (session_from side session) options.within
+      has_records.are_records.framings (seen_from side has_records.connection) told.lacks_memory
 
 -- the lines of an end begin so, and are true
 abbrev pub HasTrueUnfinished : CheckOptions → List Recorded → ℕ → Session → Opening → Side

@@ -1,5 +1,5 @@
 -- What is told of one of a connection's two ends.
-use Rattle.std.specs.Prelude.{◌≡◌, ◌⊎◌, Bool, true, ℕ, List, Option, None, Some}
+use Rattle.std.specs.Prelude.{◌≡◌, ◌⊎◌, Bool, true, false, ℕ, List, Option, None, Some}
 use Rattle.bgp_prefix.specs.declared.session.Session.{Session}
 use Rattle.segments.specs.declared.found.Endpoint.{Endpoint}
 use Rattle.streams.specs.declared.connection.Connection.{Connection}
@@ -38,7 +38,7 @@ use Rattle.bgp_why.specs.declared.endpoint.Endpoint.{Endpoint as PeerEnd}
 use Rattle.bgp_why.specs.declared.other_orders.OtherOrders.{OtherOrders}
 use Rattle.bgp_why.specs.declared.place.Place.{Place}
 use Rattle.bgp_check_tool.specs.Made.{IsMade}
-use Rattle.bgp_check_tool.specs.Orders.{IsFoundTo, IsKnown, IsUnfinished}
+use Rattle.bgp_check_tool.specs.Orders.{AreTooManyOver, IsFoundTo, IsKnown, IsUnfinished}
 use Rattle.bgp_orders.specs.WholeWays.{AreOfAWayOver}
 use Rattle.bgp_check_tool.specs.Seen.{seen_from, session_from}
 
@@ -52,6 +52,8 @@ pub record EndTold : Type 0 where
   pub order : Order
   -- whether it is known to be unfinished over all orders
   pub over_all : Bool
+  -- whether memory is refused for the search over them
+  pub lacks_memory : Bool
   -- the first sent message that no order explains, of a no, if one is known
   pub found : Option NoOrder
   -- where a no stands: at that message, or else at the impossible record; of another verdict where
@@ -88,6 +90,7 @@ told_value told = record {
   answer = answer_value told.answer;
   order = told.order;
   over_all = told.over_all;
+  lacks_memory = told.lacks_memory;
   found = told.found;
   place = told.place;
   in_made = told.in_made;
@@ -168,12 +171,30 @@ module _ (options : CheckOptions) (asked : Asked) (session : Session) (connectio
     pub is_in_made : told.in_made ≡ no_place entries answer
     pub no_judge : told.judge ≡ None
 
+-- it is a no, or unfinished, and it isn't known whether it is so over all orders
+abbrev pub IsOfOneOrder : AnswerValue → Bool → Type 0
+IsOfOneOrder (Unjudged why) over_all = ⊥
+IsOfOneOrder (JudgedAs number peer under (Yes ends)) over_all = ⊥
+IsOfOneOrder (JudgedAs number peer under (No count)) over_all = Unit {0}
+IsOfOneOrder (JudgedAs number peer under Unfinished) over_all = over_all ≡ false
+
+-- Why that isn't known: memory is refused for the search over all orders; or under one of the end's
+-- widest configurations more nodes are reached than it looks at.
+abbrev pub IsForCause : Session → ℕ → Framings → Connection → Bool → Type 0
+IsForCause session within framings connection lacks_memory =
+    (lacks_memory ≡ true) ⊎ AreTooManyOver session within framings connection
+
+abbrev pub HasCause : Session → ℕ → Framings → Connection → AnswerValue → Bool → Bool → Type 0
+HasCause session within framings connection answer over_all lacks_memory =
+    IsOfOneOrder answer over_all → IsForCause session within framings connection lacks_memory
+
 -- This is told of the end at this address and port, of this session, that has the connection so:
 -- what is answered of its records, or over all orders, and why, with what is said of other orders;
 -- of a no the first sent message that no order explains, if one is known; whether it is known to be
--- unfinished over all orders; what the answer becomes, where a message may be handled as late as it
--- can be said; the line of a message that it sent goes by the limit of its receiver. And how `bgp
--- judge` gives it, where the connection is asked for so.
+-- unfinished over all orders; why it is told of one order, if it holds of that alone; what the
+-- answer becomes, where a message may be handled as late as it can be said; the line of a message
+-- that it sent goes by the limit of its receiver. And how `bgp judge` gives it, where the
+-- connection is asked for so.
 pub record IsTold (options : CheckOptions) (asked : Asked) (end : Endpoint) (session : Session)
     (connection : Connection) (told : EndTold) : Type 0 where
   pub entries : List Entry
@@ -194,6 +215,9 @@ pub record IsTold (options : CheckOptions) (asked : Asked) (end : Endpoint) (ses
   pub is_number : HasAsNumber (records_of entries) told.as_number
   pub is_found : IsFoundTo session options.within framings connection told.answer told.found
   pub is_known : IsKnown session options.within framings connection told.over_all
+  pub has_cause : told.order ≡ orders.Made → told.found ≡ None
+      → HasCause session options.within framings connection told.answer told.over_all
+      told.lacks_memory
   pub is_place : told.place ≡ place_of told.answer told.found entries
   pub is_other : IsOther session framings.sent.limit (peer_end session connection)
       (records_of entries) told.found told.in_made told.other

@@ -1,10 +1,10 @@
 //! What the reason of a no over all orders is about.
 
-ghost use Rattle.std.specs.Prelude.{◌≡◌, ◌↔◌, IfOk, IfSome, IsTrue, map, option_map};
+ghost use Rattle.std.specs.Prelude.{◌≡◌, ◌↔◌, IfNone, IfOk, IfSome, IsTrue, map, option_map};
 ghost use Rattle.mrt.specs.Reader.{shown_of};
 ghost use Rattle.bgp_parts.specs.Opens.{HasOwnOpen, HasPeersOpen};
 ghost use Rattle.bgp_recording.specs.Captured.{records_of};
-ghost use Rattle.bgp_check_tool.specs.About.{IsNoOf, judged_value};
+ghost use Rattle.bgp_check_tool.specs.About.{IsNoOf, NeverUnexplained, judged_value};
 ghost use Rattle.bgp_check_tool.specs.Orders.{own_of, peers_of};
 
 use crate::elsewhere::count_in;
@@ -31,12 +31,14 @@ fn is_same_open(one: Option<&[u8]>, other: Option<&[u8]>) -> bool
 fn has_opens(records: &[Record<'_>], found: &NoOrder<'_>) -> bool
     ensures own { IsTrue result → HasOwnOpen (map shown_of records.now) (own_of found.now) }
     ensures peers { IsTrue result → HasPeersOpen (map shown_of records.now) (peers_of found.now) }
+    ensures has { HasOwnOpen (map shown_of records.now) (own_of found.now)
+        → HasPeersOpen (map shown_of records.now) (peers_of found.now) → IsTrue result }
 {
     is_same_open(own_open(records), found.own) && is_same_open(peers_open(records), found.peers)
 }
 
 /// Returns the no that the records of an end have under the configuration under which this message
-/// is the first that no order explains, with the AS number that the end's OPEN tells; `None` if
+/// is the first that no order explains, with the AS number that the end's OPEN tells; `None` only if
 /// they have other OPENs, or their verdict under it is another. As what no order explains isn't
 /// explained in the made one, they have this no.
 pub(crate) fn no_under<A: Allocator + Copy, T: Tracker<A>>(
@@ -47,8 +49,10 @@ pub(crate) fn no_under<A: Allocator + Copy, T: Tracker<A>>(
 ) -> Result<Option<Judged<A>>, AllocError>
     requires { map shown_of recording.now.records.items
         ≡ records_of recording.now.entries.items }
-    ensures { IfOk result (λ no. IfSome no (λ judged. IsNoOf
+    ensures some { IfOk result (λ no. IfSome no (λ judged. IsNoOf
         (records_of recording.now.entries.items) as_number found.now (judged_value judged))) }
+    ensures none { IfOk result (λ no. IfNone no (NeverUnexplained recording.now.entries.items
+        found.now)) }
 {
     let records = recording.records.as_slice();
     if !has_opens(records, found) {

@@ -1,14 +1,17 @@
 //! A yes of an end in another order than the made one, which the packets allow, too.
 
-ghost use Rattle.std.specs.Prelude.{◌≡◌, ◌↔◌, IfOk, IfSome, IsTrue, map};
+ghost use Rattle.std.specs.Prelude.{◌≡◌, ◌↔◌, IfNone, IfOk, IfSome, IsTrue, map};
 ghost use Rattle.mrt.specs.Reader.{shown_of};
 ghost use Rattle.bgp_recording.specs.Captured.{records_of};
 ghost use Rattle.bgp_recording.specs.Gathered.{IsClocked, IsCovered};
-ghost use Rattle.bgp_orders.specs.WholeWays.{AreOfAWayOver};
-ghost use Rattle.bgp_check.specs.Answered.{IsAnswerTo, answer_value};
-ghost use Rattle.bgp_check_tool.specs.Another.{IsFound, IsNo, IsNoYes, IsSought, IsYes};
+ghost use Rattle.bgp_orders.specs.WholeWays.{AreOfAWayOver, NoneIsFoundOver};
+ghost use Rattle.bgp_check.specs.Answered.{AnswerValue, IsAnswerTo, answer_value};
+ghost use Rattle.bgp_check_tool.specs.Another.{IsFound, IsNo, IsNoYes, IsOfAnOrder, IsSought};
+ghost use Rattle.bgp_check_tool.specs.Another.{IsYes};
+ghost use Rattle.bgp_check_tool.specs.Orders.{IsAWidest};
 
 use crate::ending::Viewed;
+use crate::laws::no_order_has_a_run;
 use crate::orders::{NoOrder, Said, TooLong, Under, search_end};
 use bgp_check::{Answer, check_end};
 use bgp_judge::{Tracker, Verdict};
@@ -39,11 +42,11 @@ pub(crate) struct AnotherOrder<'a, A: Allocator> {
 /// What the search over all orders finds that is told in place of the answer on the made one.
 #[derive(Drop)]
 pub(crate) enum Searched<'a, A: Allocator> {
-    /// Nothing: that answer is told.
+    /// Nothing is asked of them: that answer is a yes, or no judgement.
     Nothing,
-    /// Nothing, too: memory is refused for the search.
+    /// Nothing: memory is refused for the search.
     NoMemory,
-    /// Nothing, too: under these configurations the search is too long.
+    /// Nothing: the search is too long, and is known to be under these configurations.
     TooLong(TooLong),
     /// No order explains this sent message.
     NoOrder(NoOrder<'a>),
@@ -57,7 +60,7 @@ pub(crate) enum Searched<'a, A: Allocator> {
 
 /// Whether the end is judged with a yes.
 fn is_yes<A: Allocator>(answer: &Answer<A>) -> bool
-    ensures { IsTrue result → IsYes (answer_value answer.now) }
+    ensures { IsTrue result ↔ IsYes (answer_value answer.now) }
 {
     match answer {
         Answer::NotJudged(_) => false,
@@ -94,7 +97,9 @@ fn is_no_yes<A: Allocator>(answer: &Answer<A>) -> bool
     }
 }
 
-/// Returns the records of an order that is whole under this configuration, if they are a yes.
+/// Returns the records of an order that is whole under this configuration, which are a yes if it is
+/// one of the end's widest, and another order is judged. So it returns none of such a one only if no
+/// order is whole under it, or if too many nodes are reached.
 fn another_under<'a, A: Allocator + Copy, T: Tracker<A>>(
     alloc: A,
     viewed: &Viewed<'a>,
@@ -114,6 +119,12 @@ fn another_under<'a, A: Allocator + Copy, T: Tracker<A>>(
         IsClocked viewed.now.connection
         → AreOfAWayOver framings viewed.now.options.within viewed.now.connection
         another.recording.entries.items another.recording.received another.recording.sent)) }
+    ensures none { IfOk result (λ found. IfNone found ((answer : AnswerValue)
+        → IsClocked viewed.now.connection → IsAWidest viewed.now.session
+        viewed.now.options.within framings viewed.now.connection config.now
+        → IsOfAnOrder viewed.now.session viewed.now.options.within framings
+        viewed.now.connection answer → IsNoYes answer
+        → NoneIsFoundOver config.now viewed.now.options.within framings viewed.now.connection)) }
 {
     let within = viewed.options.within;
     let Some(recording) = record_whole_way(alloc, config, &viewed.connection, framings, within)?
@@ -130,10 +141,8 @@ fn another_under<'a, A: Allocator + Copy, T: Tracker<A>>(
 /// Returns what is found over all orders of the end's messages, if this is answered of the made one:
 /// a yes of another, if the answer isn't a yes; of a no the first sent message that no order
 /// explains, or that some order explains all of them and none is whole; that of an unfinished, too.
-/// Nothing is found if the search is too long or memory is refused for it; if some order is whole
-/// whose records aren't a yes; if the answer is unfinished, and no order explains a sent message; and
-/// if the end's OPEN offers neither family. The search is known to be too long under these
-/// configurations.
+/// Nothing is found only if the answer is a yes or no judgement; if memory is refused for the
+/// search; or if that is too long, as is known under these configurations or is found.
 pub(crate) fn search_orders<'a, A: Allocator + Copy, T: Tracker<A>>(
     alloc: A,
     viewed: &Viewed<'a>,
@@ -144,10 +153,12 @@ pub(crate) fn search_orders<'a, A: Allocator + Copy, T: Tracker<A>>(
     requires received { IsCovered viewed.now.connection.received }
     requires sent { IsCovered viewed.now.connection.sent }
     ensures sought { IsSought viewed.now.session (answer_value answer.now) result }
-    ensures found { IsClocked viewed.now.connection → IsFound viewed.now.session
-        viewed.now.options.within framings viewed.now.connection known (answer_value answer.now)
-        result }
+    ensures found { IsClocked viewed.now.connection → IsOfAnOrder viewed.now.session
+        viewed.now.options.within framings viewed.now.connection (answer_value answer.now)
+        → IsFound viewed.now.session viewed.now.options.within framings viewed.now.connection known
+        (answer_value answer.now) result }
 {
+    no_order_has_a_run();
     if !is_no_yes(answer) {
         return Searched::Nothing;
     }
@@ -155,7 +166,7 @@ pub(crate) fn search_orders<'a, A: Allocator + Copy, T: Tracker<A>>(
         Ok(Said::Whole(config)) => {
             match another_under::<A, T>(alloc, viewed, framings, &config) {
                 Ok(Some(another)) => Searched::Another(another),
-                Ok(None) => Searched::Nothing,
+                Ok(None) => Searched::TooLong(TooLong::unknown()),
                 Err(_) => Searched::NoMemory,
             }
         }

@@ -30,7 +30,7 @@ ghost use Rattle.bgp_check_tool.specs.Late.{IsLate};
 ghost use Rattle.bgp_check_tool.specs.Made.{IsMade};
 ghost use Rattle.bgp_check_tool.specs.Orders.{IsKnown, IsUnexplained, IsUnfinished};
 ghost use Rattle.bgp_check_tool.specs.Place.{second_at};
-ghost use Rattle.bgp_check_tool.specs.Told.{IsTold, peer_end, place_of, told_value};
+ghost use Rattle.bgp_check_tool.specs.Told.{HasCause, IsTold, peer_end, place_of, told_value};
 ghost use Rattle.bgp_watch.specs.Front.{front_value};
 
 use crate::about::no_under;
@@ -85,6 +85,8 @@ pub(crate) struct Told<'a, A: Allocator> {
     pub(crate) order: Order,
     /// Whether it is known to be unfinished over all orders.
     pub(crate) over_all: bool,
+    /// Whether memory is refused for the search over all orders.
+    pub(crate) lacks_memory: bool,
     /// The first sent message that no order explains, of a no, if one is known.
     pub(crate) found: Option<NoOrder<'a>>,
     /// Where a no stands: at that message, or else at the impossible record. Of another verdict
@@ -137,6 +139,7 @@ fn place_of<A: Allocator>(
 struct Beside<'a, A: Allocator> {
     order: Order,
     over_all: bool,
+    lacks_memory: bool,
     found: Option<NoOrder<'a>>,
     in_made: Option<Place>,
     other: Option<Vec<u8, A>>,
@@ -149,6 +152,7 @@ impl<'a, A: Allocator + Copy> Beside<'a, A> {
     fn of_another() -> Beside<'a, A>
         ensures order { result.order ≡ OfAnother }
         ensures over_all { result.over_all ≡ false }
+        ensures lacks_memory { result.lacks_memory ≡ false }
         ensures found { result.found ≡ None }
         ensures in_made { result.in_made ≡ None }
         ensures other { octets_if result.other ≡ None }
@@ -158,6 +162,7 @@ impl<'a, A: Allocator + Copy> Beside<'a, A> {
         Beside {
             order: Order::Another,
             over_all: false,
+            lacks_memory: false,
             found: None,
             in_made: None,
             other: None,
@@ -171,6 +176,7 @@ impl<'a, A: Allocator + Copy> Beside<'a, A> {
     fn of_all(in_made: Option<Place>, late: Option<Late>) -> Beside<'a, A>
         ensures order { result.order ≡ OfAll }
         ensures over_all { result.over_all ≡ true }
+        ensures lacks_memory { result.lacks_memory ≡ false }
         ensures found { result.found ≡ None }
         ensures in_made { result.in_made ≡ in_made }
         ensures other { octets_if result.other ≡ None }
@@ -180,6 +186,7 @@ impl<'a, A: Allocator + Copy> Beside<'a, A> {
         Beside {
             order: Order::All,
             over_all: true,
+            lacks_memory: false,
             found: None,
             in_made,
             other: None,
@@ -188,14 +195,15 @@ impl<'a, A: Allocator + Copy> Beside<'a, A> {
         }
     }
 
-    /// Beside this answer on the made order, and whether it is known to be unfinished over all. The
-    /// search is known to be too long under these configurations.
+    /// Beside this answer on the made order, and whether it is known to be unfinished over all, or
+    /// memory is refused for that search. It is known to be too long under these configurations.
     fn of_made<T: Tracker<A>>(
         alloc: A,
         viewed: &Viewed<'_>,
         made: &Made<'_, A>,
         answer: &Answer<A>,
         over_all: bool,
+        lacks_memory: bool,
         known: TooLong,
     ) -> Result<Beside<'a, A>, AllocError>
         requires received { IsCovered viewed.now.connection.received }
@@ -204,6 +212,7 @@ impl<'a, A: Allocator + Copy> Beside<'a, A> {
             ≡ records_of made.now.recording.entries.items }
         ensures order { IfOk result (λ beside. beside.order ≡ OfMade) }
         ensures over_all { IfOk result (λ beside. beside.over_all ≡ over_all) }
+        ensures lacks_memory { IfOk result (λ beside. beside.lacks_memory ≡ lacks_memory) }
         ensures found { IfOk result (λ beside. beside.found ≡ None) }
         ensures in_made { IfOk result (λ beside. beside.in_made ≡ None) }
         ensures other { IfOk result (λ beside. octets_if beside.other ≡ None) }
@@ -220,6 +229,7 @@ impl<'a, A: Allocator + Copy> Beside<'a, A> {
         Ok(Beside {
             order: Order::Made,
             over_all,
+            lacks_memory,
             found: None,
             in_made: None,
             other: None,
@@ -244,6 +254,7 @@ impl<'a, A: Allocator + Copy> Beside<'a, A> {
             ≡ records_of made.now.recording.entries.items }
         ensures order { IfOk result (λ beside. beside.order ≡ OfMade) }
         ensures over_all { IfOk result (λ beside. beside.over_all ≡ false) }
+        ensures lacks_memory { IfOk result (λ beside. beside.lacks_memory ≡ false) }
         ensures found { IfOk result (λ beside. beside.found ≡ Some found.entry) }
         ensures in_made { IfOk result (λ beside. beside.in_made ≡ in_made
             made.now.recording.entries.items (Some found.entry) (judged_value about.now)) }
@@ -267,6 +278,7 @@ impl<'a, A: Allocator + Copy> Beside<'a, A> {
         Ok(Beside {
             order: Order::Made,
             over_all: false,
+            lacks_memory: false,
             found: Some(found),
             in_made,
             other,
@@ -378,7 +390,8 @@ fn told_of<'a, A: Allocator + Copy>(
         × (lines_text result.reason ≡ lines_text reason) }
     ensures unshown { (result.received ≡ recording.now.received)
         × (result.sent ≡ recording.now.sent) }
-    ensures over_all { result.over_all ≡ beside.entry.over_all }
+    ensures over_all { (result.over_all ≡ beside.entry.over_all)
+        × (result.lacks_memory ≡ beside.entry.lacks_memory) }
     ensures beside { (result.order ≡ beside.entry.order) × (result.found ≡ beside.entry.found)
         × (result.in_made ≡ beside.entry.in_made)
         × (octets_if result.other ≡ octets_if beside.entry.other)
@@ -391,6 +404,7 @@ fn told_of<'a, A: Allocator + Copy>(
         answer,
         order: beside.order,
         over_all: beside.over_all,
+        lacks_memory: beside.lacks_memory,
         found: beside.found,
         in_made: beside.in_made,
         other: beside.other,
@@ -447,14 +461,15 @@ pub(crate) fn unfinished<A: Allocator>(as_number: Option<u32>, its: Under) -> An
 }
 
 /// What is told of an end in the made order, of which this is answered, and whether it is known to
-/// be unfinished over all orders. The search over them is known to be too long under these
-/// configurations.
+/// be unfinished over all orders, or memory is refused for the search over them. It is known to be
+/// too long under these configurations.
 fn told_as_made<'a, A: Allocator + Copy, T: Tracker<A>>(
     alloc: A,
     viewed: &Viewed<'a>,
     made: &Made<'_, A>,
     watched: WatchedEnd<A>,
     over_all: bool,
+    lacks_memory: bool,
     known: TooLong,
 ) -> Result<Told<'a, A>, AllocError>
     requires received { IsCovered viewed.now.connection.received }
@@ -470,6 +485,8 @@ fn told_as_made<'a, A: Allocator + Copy, T: Tracker<A>>(
         made.now.recording.entries.items made.now.recording.received made.now.recording.sent
         → IsKnown viewed.now.session viewed.now.options.within made.now.framings
         viewed.now.connection over_all
+        → HasCause viewed.now.session viewed.now.options.within made.now.framings
+        viewed.now.connection (answer_value watched.answer) over_all lacks_memory
         → IsTold viewed.now.options viewed.now.asked viewed.now.end viewed.now.session
         viewed.now.connection (told_value told)) }
 {
@@ -478,7 +495,7 @@ fn told_as_made<'a, A: Allocator + Copy, T: Tracker<A>>(
     let instead = OtherOrders::Unasked;
     let reached = reached_on::<A, T>(alloc, recording, &answer, before)?;
     let reason = reason_on::<A, T>(alloc, viewed, framings, recording, instead, &answer)?;
-    let beside = Beside::of_made::<T>(alloc, viewed, made, &answer, over_all, known)?;
+    let beside = Beside::of_made::<T>(alloc, viewed, made, &answer, over_all, lacks_memory, known)?;
     Ok(told_of(viewed, recording, answer, reached, reason, beside))
 }
 
@@ -521,7 +538,7 @@ fn told_of_no_order<'a, A: Allocator + Copy, T: Tracker<A>>(
     Ok(told_of(viewed, recording, answer, reached, reason, beside))
 }
 
-/// The same, if the records of the made order have such a no; else what is told in that order.
+/// The same. The records of the made order have such a no.
 fn told_of_found<'a, A: Allocator + Copy, T: Tracker<A>>(
     alloc: A,
     viewed: &Viewed<'a>,
@@ -549,7 +566,10 @@ fn told_of_found<'a, A: Allocator + Copy, T: Tracker<A>>(
     let number = number_in(&watched.answer);
     match no_under::<A, T>(alloc, &made.recording, number, &found)? {
         Some(about) => { told_of_no_order::<A, T>(alloc, viewed, made, watched, &about, found) }
-        None => { told_as_made::<A, T>(alloc, viewed, made, watched, false, TooLong::unknown()) }
+        None => {
+            let unknown = TooLong::unknown();
+            told_as_made::<A, T>(alloc, viewed, made, watched, false, false, unknown)
+        }
     }
 }
 
@@ -649,12 +669,18 @@ pub(crate) fn told_by<'a, A: Allocator + Copy, T: Tracker<A>>(
     let watched = watch_end::<A, T>(alloc, &viewed.session, records)?;
     let unknown = TooLong::unknown();
     match search_orders::<A, T>(alloc, viewed, made.framings, &watched.answer, unknown) {
-        Searched::Nothing => { told_as_made::<A, T>(alloc, viewed, made, watched, false, unknown) }
-        Searched::NoMemory => { told_as_made::<A, T>(alloc, viewed, made, watched, false, unknown) }
-        Searched::TooLong(known) => {
-            told_as_made::<A, T>(alloc, viewed, made, watched, false, known)
+        Searched::Nothing => {
+            told_as_made::<A, T>(alloc, viewed, made, watched, false, false, unknown)
         }
-        Searched::AsMade(_) => { told_as_made::<A, T>(alloc, viewed, made, watched, true, unknown) }
+        Searched::NoMemory => {
+            told_as_made::<A, T>(alloc, viewed, made, watched, false, true, unknown)
+        }
+        Searched::TooLong(known) => {
+            told_as_made::<A, T>(alloc, viewed, made, watched, false, false, known)
+        }
+        Searched::AsMade(_) => {
+            told_as_made::<A, T>(alloc, viewed, made, watched, true, false, unknown)
+        }
         Searched::NoOrder(found) => { told_of_found::<A, T>(alloc, viewed, made, watched, found) }
         Searched::Unfinished(its) => {
             told_over_all::<A, T>(alloc, viewed, made, &watched.answer, its)

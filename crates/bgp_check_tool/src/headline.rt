@@ -30,7 +30,9 @@ use std::alloc::Allocator;
 /// If the note is there, the same is known of one of these orders: no such configuration has a run
 /// that shows the end's records in it up to one that packet P shows. In both cases some such
 /// configuration has a run that explains what comes before, if the OPEN is any configuration's own.
-/// That is the clause `no`.
+/// The note is there only if memory is refused for the search over all orders, or if that reaches
+/// more than [`MOST_NODES`](bgp_orders::MOST_NODES) nodes under one of the end's widest
+/// configurations. That is the clause `no`.
 ///
 /// If they begin with `yes`, some run under such a configuration shows just the end's records in
 /// one of these orders. Each state in which such a run can end is listed, and no other. It is the
@@ -43,9 +45,9 @@ use std::alloc::Allocator;
 /// order, packet P shows the last record, no run under such a configuration shows just the end's
 /// records in any order that the packets allow, and in one of these some run explains all that the
 /// end sent. Another note says so if the order that is made is a no. If the note is there, no such
-/// run shows just the records in the order that is made, and some run shows more. That is the
-/// clause `unfinished`. All that is printed is tied to the packets, so that no other line passes
-/// for one of these.
+/// run shows just the records in the order that is made, and some run shows more; and it is there
+/// only for one of the two causes of a no. That is the clause `unfinished`. All that is printed is
+/// tied to the packets, so that no other line passes for one of these.
 ///
 /// It writes a line for each connection, in the order of their first packets. After it come the
 /// reports on both ends, first on the one that opened the connection: the verdict; for a yes each

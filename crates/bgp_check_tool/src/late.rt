@@ -5,6 +5,7 @@ ghost use Rattle.bgp_check.specs.Answered.{answer_value};
 ghost use Rattle.bgp_judge.specs.Verdict.{verdict_value};
 ghost use Rattle.bgp_recording.specs.Gathered.{IsClocked, IsCovered};
 ghost use Rattle.bgp_check_lines.specs.Lines.{PutsLines};
+ghost use Rattle.bgp_check_tool.specs.Another.{IsOfAnOrder};
 ghost use Rattle.bgp_check_tool.specs.Late.{IsAnsweredLater, IsAnsweredOver, IsLate};
 ghost use Rattle.bgp_check_tool.specs.Late.{IsLateFor, IsLateOf, late_by};
 ghost use Rattle.bgp_check_tool.specs.Late.{late_over, late_text};
@@ -70,8 +71,10 @@ fn over_orders<A: Allocator + Copy, T: Tracker<A>>(
 ) -> Answer<A>
     requires received { IsCovered viewed.now.connection.received }
     requires sent { IsCovered viewed.now.connection.sent }
-    ensures { IsClocked viewed.now.connection → IsAnsweredOver viewed.now.session
-        viewed.now.connection framings (answer_value answer) (answer_value result) }
+    ensures { IsClocked viewed.now.connection
+        → IsOfAnOrder viewed.now.session 65535 framings viewed.now.connection (answer_value answer)
+        → IsAnsweredOver viewed.now.session viewed.now.connection framings (answer_value answer)
+        (answer_value result) }
 {
     let options = CheckOptions {
         within: GREATEST,

@@ -2,8 +2,8 @@
 
 ghost use Rattle.bgp_check_tool.specs.Alone.{EachConnectionIsTold, EachRefusalIsTold};
 ghost use Rattle.bgp_check_tool.specs.Headline.{NoConfigurationHasARun, NoOrderHasARun};
-ghost use Rattle.bgp_check_tool.specs.Headline.{NoneIsWhole, NothingIsVacuous, ToldNoHasNoRun};
-ghost use Rattle.bgp_check_tool.specs.Headline.{VerdictIsOverAll};
+ghost use Rattle.bgp_check_tool.specs.Headline.{NoneIsWhole, NothingIsVacuous, OneOrderHasACause};
+ghost use Rattle.bgp_check_tool.specs.Headline.{ToldNoHasNoRun, VerdictIsOverAll};
 ghost use Rattle.bgp_check_tool.specs.Headings.{HeadingsAreTheList, ListIsWithoutEnds};
 ghost use Rattle.bgp_check_tool.specs.Orders.{UnexplainedByAll, UnfinishedByAll};
 ghost use Rattle.bgp_check_tool.specs.Quiet.{QuietKeepsTrouble};
@@ -61,6 +61,14 @@ pub fn a_verdict_is_over_all_configurations()
 {
     no_order_is_whole();
 }
+
+/// States why a no or an unfinished is told of one order, if it isn't known to hold over all: under
+/// one of the end's widest configurations the search over all orders reaches more nodes than it looks
+/// at. So it is unless memory is refused for that search, which the end's
+/// [mark](crate::EndMark) says.
+pub fn one_order_is_told_for_a_cause()
+    ensures { OneOrderHasACause }
+{}
 
 /// A verdict is told only of an end that sent a message, and of records that begin where it leaves
 /// Idle: no yes is vacuous.

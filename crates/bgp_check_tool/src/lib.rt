@@ -39,7 +39,7 @@ pub use headline::{a_printed_verdict_is_over_all_configurations, check_marking, 
 pub use laws::{
     a_judge_line_gives_the_verdict, a_verdict_is_over_all_configurations, each_of_them_is_told,
     no_configuration_has_a_run, no_order_has_a_run, no_order_is_whole, no_verdict_is_vacuous,
-    quiet_keeps_what_is_not_well, without_its_ends_it_is_the_list,
+    one_order_is_told_for_a_cause, quiet_keeps_what_is_not_well, without_its_ends_it_is_the_list,
 };
 pub use making::{Made, made_of};
 pub use marks::{BothMarks, EndMark, Marks, NoAt};

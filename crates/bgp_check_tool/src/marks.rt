@@ -37,6 +37,9 @@ pub struct EndMark {
     pub order: Order,
     /// Where its no stands, if it has one.
     pub no: NoAt,
+    /// Whether memory was refused for the search over all orders. If not, a no or an unfinished is
+    /// told of one order alone only if that search was too long.
+    pub lacks_memory: bool,
 }
 
 /// What is known of both ends of a connection.
@@ -78,15 +81,17 @@ fn no_at<A: Allocator>(verdict: &Verdict<A>, found: &Option<NoOrder<'_>>) -> NoA
 fn mark_by<A: Allocator>(
     answer: &Answer<A>,
     order: Order,
+    lacks_memory: bool,
     found: &Option<NoOrder<'_>>,
 ) -> Option<EndMark>
-    ensures { result ≡ mark_by (answer_value answer.now) order found.now }
+    ensures { result ≡ mark_by (answer_value answer.now) order lacks_memory found.now }
 {
     match answer {
         Answer::NotJudged(_) => None,
         Answer::Judged(judged) => Some(EndMark {
             order,
             no: no_at(&judged.verdict, found),
+            lacks_memory,
         }),
     }
 }
@@ -98,7 +103,7 @@ fn end_mark<A: Allocator>(printing: Printing, told: &Told<'_, A>) -> Option<EndM
     if is_left_out(printing.quiet, &told.answer) {
         None
     } else {
-        mark_by(&told.answer, told.order, &told.found)
+        mark_by(&told.answer, told.order, told.lacks_memory, &told.found)
     }
 }
 

@@ -1,6 +1,6 @@
 //! What all orders say together that the packets allow, under an end's widest configurations.
 
-ghost use Rattle.std.specs.Prelude.{◌≡◌, true, IfOk, IsTrue, map, option_map};
+ghost use Rattle.std.specs.Prelude.{◌≡◌, true, false, IfOk, IsTrue, map, option_map};
 ghost use Rattle.mrt.specs.Reader.{shown_of};
 ghost use Rattle.bgp_recording.specs.Gathered.{IsClocked, IsCovered};
 ghost use Rattle.bgp_recording.specs.Told.{IsTold};
@@ -29,7 +29,10 @@ pub(crate) struct TooLong {
 
 impl TooLong {
     /// Returns that it is known of none.
-    pub(crate) fn unknown() -> TooLong {
+    pub(crate) fn unknown() -> TooLong
+        ensures wanting { result.wanting ≡ false }
+        ensures another { result.another ≡ false }
+    {
         TooLong {
             wanting: false,
             another: false,

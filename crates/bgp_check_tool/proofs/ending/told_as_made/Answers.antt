@@ -12,11 +12,11 @@ use Rattle.bgp_check_tool.specs.Orders.{IsKnown}
 use Rattle.bgp_check_tool.specs.Place.{second_at}
 use Rattle.bgp_check_tool.specs.Told.{peer_end, place_of, told_value}
 use Rattle.bgp_why.specs.declared.other_orders.OtherOrders.TheVariants.{Unasked}
-use Rattle.bgp_check_tool.proofs.TellingEnd.{about_so, made_so, nothing_found, nothing_instead, nothing_other, reached_so, reason_so, told_so}
+use Rattle.bgp_check_tool.proofs.TellingEnd.{about_so, cause_so, made_so, nothing_found, nothing_instead, nothing_other, reached_so, reason_so, told_so}
 use Rattle.bgp_check_tool.proofs.ending.told_as_made.Goals as goal
 
 pub returns : goal.returns
-returns g c = λ clocked made known.
+returns g c = λ clocked made known cause.
     let viewed = c.args.viewed.now in
     let options = viewed.options in
     let framings = c.args.made.now.framings in
@@ -41,7 +41,8 @@ returns g c = λ clocked made known.
     }))
     is.end is.as_number
     (nothing_found viewed.session options.within framings viewed.connection answer told.found nothing)
-    (subst (λ (b : Bool). IsKnown viewed.session options.within framings viewed.connection b) (sym (is.over_all ∙ beside.over_all)) known)
+    (subst (λ (b : Bool). IsKnown viewed.session options.within framings viewed.connection b) (sym (is.over_all.0 ∙ beside.over_all)) known)
+    (λ is_made none. cause_so viewed.session options.within framings viewed.connection answer told.over_all _ told.lacks_memory _ (is.over_all.0 ∙ beside.over_all) (is.over_all.1 ∙ beside.lacks_memory) cause)
     (is.place ∙ ap (λ (f : Option NoOrder). place_of answer f entries) (sym is.beside.1))
     (nothing_other viewed.session framings.sent.limit peer records told.found told.in_made told.other nothing (is.beside.3 ∙ beside.other))
     is.first is.put_off is.within

@@ -9,7 +9,7 @@ use Rattle.bgp_check_tool.specs.Orders.{IsKnown}
 use Rattle.bgp_check_tool.specs.Place.{second_at}
 use Rattle.bgp_check_tool.specs.Told.{peer_end, place_of, told_value}
 use Rattle.bgp_why.specs.declared.other_orders.OtherOrders.TheVariants.{Unasked}
-use Rattle.bgp_check_tool.proofs.TellingEnd.{about_so, nothing_found, nothing_instead, nothing_other, reached_so, reason_so, told_so, yes_not_late}
+use Rattle.bgp_check_tool.proofs.TellingEnd.{about_so, another_order, nothing_found, nothing_instead, nothing_other, reached_so, reason_so, told_so, yes_not_late}
 use Rattle.bgp_check_tool.proofs.ending.told_of_another.Goals as goal
 
 pub returns : goal.returns
@@ -44,7 +44,8 @@ returns g c = λ made_entries made_received made_sent made_answer made answers_m
       no_judge = is.beside.5 ∙ beside.judge;
     })))
     is.end is.as_number (nothing_found viewed.session options.within framings viewed.connection answer told.found nothing)
-    (subst (λ (b : Bool). IsKnown viewed.session options.within framings viewed.connection b) (sym (is.over_all ∙ beside.over_all)) tt)
+    (subst (λ (b : Bool). IsKnown viewed.session options.within framings viewed.connection b) (sym (is.over_all.0 ∙ beside.over_all)) tt)
+    (λ is_made none. absurd (another_order told.order (is.beside.0 ∙ beside.order) is_made))
     (is.place ∙ ap (λ (f : Option NoOrder). place_of answer f entries) (sym is.beside.1))
     (nothing_other viewed.session framings.sent.limit peer records told.found told.in_made told.other nothing (is.beside.3 ∙ beside.other))
     is.first is.put_off is.within

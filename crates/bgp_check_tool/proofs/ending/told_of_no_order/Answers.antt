@@ -15,7 +15,7 @@ use Rattle.bgp_check_tool.specs.Late.{IsLate}
 use Rattle.bgp_check_tool.specs.Orders.{IsKnown}
 use Rattle.bgp_check_tool.specs.Place.{second_at}
 use Rattle.bgp_check_tool.specs.Told.{peer_end, place_of, told_value}
-use Rattle.bgp_check_tool.proofs.TellingEnd.{about_so, made_so, message_found, other_so, reached_so, reason_so, told_so}
+use Rattle.bgp_check_tool.proofs.TellingEnd.{about_so, made_so, message_found, other_so, reached_so, reason_so, some_found, told_so}
 use Rattle.bgp_check_tool.proofs.NoUnder.{about_holds, about_no, about_number, about_widest}
 use Rattle.bgp_check_tool.proofs.ending.told_of_no_order.Goals as goal
 
@@ -60,7 +60,8 @@ returns g c = λ clocked made unexplained.
     }))
     is.end is.as_number
     (message_found viewed.session options.within framings viewed.connection answer told.found c.args.found some c.requires.no unexplained)
-    (subst (λ (b : Bool). IsKnown viewed.session options.within framings viewed.connection b) (sym (is.over_all ∙ beside.over_all)) tt)
+    (subst (λ (b : Bool). IsKnown viewed.session options.within framings viewed.connection b) (sym (is.over_all.0 ∙ beside.over_all)) tt)
+    (λ is_made none. absurd (some_found told.found c.args.found some none))
     (is.place ∙ ap (λ (f : Option NoOrder). place_of answer f entries) (sym is.beside.1))
     (other_so viewed.session framings.sent.limit peer records told.found (Some c.args.found) told.in_made _ told.other _ some is.beside.2 is.beside.3 beside.other)
     is.first is.put_off is.within

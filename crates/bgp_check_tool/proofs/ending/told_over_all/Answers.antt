@@ -14,7 +14,7 @@ use Rattle.bgp_check_tool.specs.Orders.{IsKnown}
 use Rattle.bgp_check_tool.specs.Place.{second_at}
 use Rattle.bgp_check_tool.specs.Told.{peer_end, place_of, told_value}
 use Rattle.bgp_why.specs.declared.other_orders.OtherOrders.TheVariants.{Unasked}
-use Rattle.bgp_check_tool.proofs.TellingEnd.{about_so, nothing_found, nothing_instead, nothing_other, reached_so, reason_so, told_so}
+use Rattle.bgp_check_tool.proofs.TellingEnd.{about_so, nothing_found, nothing_instead, nothing_other, over_all_orders, reached_so, reason_so, told_so}
 use Rattle.bgp_check_tool.proofs.ending.told_over_all.Goals as goal
 
 pub returns : goal.returns
@@ -45,13 +45,14 @@ returns g c = λ clocked made over.
       under = its.under;
       over = over;
       is_told = so;
-      is_known = is.over_all ∙ beside.over_all;
+      is_known = is.over_all.0 ∙ beside.over_all;
       is_in_made = is.beside.2 ∙ beside.in_made ∙ c.no_place-in_made.ensures ∙ ap (λ (es : List Entry). no_place es answer) c.as_slice.ensures.value;
       no_judge = is.beside.5 ∙ beside.judge;
     })))
     is.end is.as_number
     (nothing_found viewed.session options.within framings viewed.connection unfinished told.found nothing)
-    (subst (λ (b : Bool). IsKnown viewed.session options.within framings viewed.connection b) (sym (is.over_all ∙ beside.over_all)) (its.peer_as, its.under, over))
+    (subst (λ (b : Bool). IsKnown viewed.session options.within framings viewed.connection b) (sym (is.over_all.0 ∙ beside.over_all)) (its.peer_as, its.under, over))
+    (λ is_made none. absurd (over_all_orders told.order (is.beside.0 ∙ beside.order) is_made))
     (is.place ∙ ap (λ (f : Option NoOrder). place_of unfinished f entries) (sym is.beside.1))
     (nothing_other viewed.session framings.sent.limit peer records told.found told.in_made told.other nothing (is.beside.3 ∙ beside.other))
     is.first is.put_off is.within

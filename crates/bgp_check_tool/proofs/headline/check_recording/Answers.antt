@@ -1,4 +1,3 @@
-use Rattle.std.proofs.Common.{[], subst, sym, ℕ}
 use Rattle.bgp_check_tool.proofs.headline.check_recording.Goals as goal
 
 pub returns-clause-all : goal.returns-clause-all
