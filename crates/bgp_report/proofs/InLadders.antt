@@ -2,6 +2,7 @@
 use Rattle.std.proofs.Common.{◌≡◌, ◌∙◌, ◌++◌, ◌+◌, ◌-◌, ◌<◌, ◌⊎◌, ◌==◌, ◌||◌, ℕ, Bool, true, false, List, [], ◌∷◌, Option, None, Some, add-one, ap, append-nil, append_assoc, drop, get_or, if◌then◌else◌, inl, inr, length, refl, subst, sym, take}
 use Rattle.std.proofs.Math.Seq.{drop-cons}
 use Rattle.std.proofs.lemmas.Grind.{flat_map-append}
+use Rattle.std.proofs.lemmas.List.{take_more}
 use Rattle.std.specs.List.{list_any}
 use Rattle.packets.specs.Packet.{Recorded}
 use Rattle.streams.specs.declared.connection.Opening.{Opening}
@@ -75,6 +76,20 @@ module _ (port within : ℕ) (packets : List Recorded) (text : List ℕ) where
     one_more (behind_both count first) marks both rest one more is,
     ap (λ (ps : List Piece). ps ++ one) whole ∙ append_assoc its rest one,
   )
+
+-- the one with this number
+module _ (marks : List BothMarks) (i : ℕ) (d : BothMarks) (within : i < length marks) (count : ℕ) (counted : count ≡ behind_all 0 (take i marks)) where
+  pub counted_on : (next : ℕ) → next ≡ behind_both count (get_or marks i d) → next ≡ behind_all 0 (take (i + 1) marks)
+  counted_on next is =
+      is ∙ ap (λ (n : ℕ). behind_both n (get_or marks i d)) counted ∙ sym (one_behind 0 (take i marks) (get_or marks i d))
+      ∙ ap (λ (ms : List BothMarks). behind_all 0 ms) (sym (take_more marks i d within))
+
+  pub ladders_on : (port seconds : ℕ) (packets : List Recorded) (text : List ℕ) (pieces one : List Piece) → AreLadders port seconds packets text 0 (take i marks) pieces
+      → AreOfBoth port seconds packets text count (get_or marks i d) one → AreLadders port seconds packets text 0 (take (i + 1) marks) (pieces ++ one)
+  ladders_on port seconds packets text pieces one are is =
+      subst (λ (ms : List BothMarks). AreLadders port seconds packets text 0 ms (pieces ++ one)) (sym (take_more marks i d within))
+      (one_more port seconds packets text 0 (take i marks) (get_or marks i d) pieces one are
+      (subst (λ (n : ℕ). AreOfBoth port seconds packets text n (get_or marks i d) one) counted is))
 
 -- what is written of two lists, and of three
 pub together : {W : Type 0} {sink : sinks.Ghosts W} {old new : Lines W sink} (pieces more : List Piece)

@@ -30,7 +30,7 @@ returns-clause-no g c =
     let front = c.put_head.ensures.front ∙ c.requires.front in
     let fresh : noted_by from.notes ≡ nothing_noted = ap (λ (n : Notes _). noted_by n) c.put_head.ensures.notes ∙ c.requires.noted in
     let noted = subst (λ (n : Notes _). AreNotes took.0 n) (sym c.into_parts-lines.ensures.notes)
-    (noted_lines from.lines to.lines from.kind to.kind from.front.items to.front.items from.notes to.notes _ took.0 kind front fresh took.1 c.end.ensures.noted) in
+    (noted_lines from.lines to.lines from.kind to.kind from.front.items to.front.items from.notes to.notes c.end.new.self.notes took.0 kind front fresh took.1 c.end.ensures.noted) in
     let put = c.put_ladders.ensures c.args.options.now.port marked.checks.packets took.0 all marked.held noted
     (all_marks c.new-marks.result c.check_marking-checked.new.marks all marked.marked c.new-marks.ensures.both) in
     let ends = rw (← c.into_parts-lines.ensures.lines) at c.end.ensures.writes in
@@ -54,7 +54,7 @@ returns-clause-yes g c =
     let front = c.put_head.ensures.front ∙ c.requires.front in
     let fresh : noted_by from.notes ≡ nothing_noted = ap (λ (n : Notes _). noted_by n) c.put_head.ensures.notes ∙ c.requires.noted in
     let noted = subst (λ (n : Notes _). AreNotes took.0 n) (sym c.into_parts-lines.ensures.notes)
-    (noted_lines from.lines to.lines from.kind to.kind from.front.items to.front.items from.notes to.notes _ took.0 kind front fresh took.1 c.end.ensures.noted) in
+    (noted_lines from.lines to.lines from.kind to.kind from.front.items to.front.items from.notes to.notes c.end.new.self.notes took.0 kind front fresh took.1 c.end.ensures.noted) in
     let put = c.put_ladders.ensures c.args.options.now.port marked.checks.packets took.0 all marked.held noted
     (all_marks c.new-marks.result c.check_marking-checked.new.marks all marked.marked c.new-marks.ensures.both) in
     let ends = rw (← c.into_parts-lines.ensures.lines) at c.end.ensures.writes in
@@ -78,7 +78,7 @@ returns-clause-unfinished g c =
     let front = c.put_head.ensures.front ∙ c.requires.front in
     let fresh : noted_by from.notes ≡ nothing_noted = ap (λ (n : Notes _). noted_by n) c.put_head.ensures.notes ∙ c.requires.noted in
     let noted = subst (λ (n : Notes _). AreNotes took.0 n) (sym c.into_parts-lines.ensures.notes)
-    (noted_lines from.lines to.lines from.kind to.kind from.front.items to.front.items from.notes to.notes _ took.0 kind front fresh took.1 c.end.ensures.noted) in
+    (noted_lines from.lines to.lines from.kind to.kind from.front.items to.front.items from.notes to.notes c.end.new.self.notes took.0 kind front fresh took.1 c.end.ensures.noted) in
     let put = c.put_ladders.ensures c.args.options.now.port marked.checks.packets took.0 all marked.held noted
     (all_marks c.new-marks.result c.check_marking-checked.new.marks all marked.marked c.new-marks.ensures.both) in
     let ends = rw (← c.into_parts-lines.ensures.lines) at c.end.ensures.writes in
@@ -102,7 +102,7 @@ returns-clause-all g c =
     let front = c.put_head.ensures.front ∙ c.requires.front in
     let fresh : noted_by from.notes ≡ nothing_noted = ap (λ (n : Notes _). noted_by n) c.put_head.ensures.notes ∙ c.requires.noted in
     let noted = subst (λ (n : Notes _). AreNotes took.0 n) (sym c.into_parts-lines.ensures.notes)
-    (noted_lines from.lines to.lines from.kind to.kind from.front.items to.front.items from.notes to.notes _ took.0 kind front fresh took.1 c.end.ensures.noted) in
+    (noted_lines from.lines to.lines from.kind to.kind from.front.items to.front.items from.notes to.notes c.end.new.self.notes took.0 kind front fresh took.1 c.end.ensures.noted) in
     let put = c.put_ladders.ensures c.args.options.now.port marked.checks.packets took.0 all marked.held noted
     (all_marks c.new-marks.result c.check_marking-checked.new.marks all marked.marked c.new-marks.ensures.both) in
     let ends = rw (← c.into_parts-lines.ensures.lines) at c.end.ensures.writes in
