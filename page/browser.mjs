@@ -101,10 +101,10 @@ export class Browser {
     });
   }
 
-  // Returns the value of an expression in the page.
+  // Returns the value of an expression in the page, as if the user had asked for it.
   async value(expression) {
     const { result, exceptionDetails } = await this.own("Runtime.evaluate",
-      { expression, awaitPromise: true, returnByValue: true });
+      { expression, awaitPromise: true, returnByValue: true, userGesture: true });
     if (exceptionDetails) throw new Error(exceptionDetails.exception?.description);
     return result.value;
   }

@@ -71,10 +71,15 @@ function show(name, { status, report, notes, lacks }, others) {
   at("notes").hidden = notes.length === 0;
   URL.revokeObjectURL(at("save").href);
   at("save").href = URL.createObjectURL(new Blob([report], { type: "text/html" }));
-  at("save").download = `${name}.html`;
+  at("save").download = savedName(name);
   at("tools").hidden = false;
   at("report").srcdoc = new TextDecoder("utf-8", { ignoreBOM: true }).decode(report);
   at("report").hidden = false;
+}
+
+// Returns a name for the saved report that every file system takes.
+function savedName(name) {
+  return `${name.replace(/[\p{C}\p{Z}\\/:*?"<>|]/gu, "_").slice(0, 100)}.html`;
 }
 
 function hideReport() {

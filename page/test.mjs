@@ -26,6 +26,15 @@ function isSo(what, holds) {
   if (!holds) throw new Difference(what);
 }
 
+// Waits for something, and not for ever.
+function soon(what, promise) {
+  let timer;
+  const late = new Promise((_, reject) => {
+    timer = setTimeout(() => reject(new Difference(`${what} takes more than two minutes`)), 120_000);
+  });
+  return Promise.race([promise, late]).finally(() => clearTimeout(timer));
+}
+
 // What the program says of a file, which it is given by its name alone.
 function native(file) {
   const words = ["check", "--html", "--", path.basename(file)];
@@ -99,18 +108,21 @@ async function shown(browser, chosen) {
 
 // Saves the report, and returns what was saved.
 async function saved(browser, folder) {
-  const done = new Promise(done => {
+  const ended = new Promise(done => {
     browser.wire.hearing.push(({ method, params }) => {
-      if (method === "Browser.downloadProgress" && params.state === "completed") done(params);
+      if (method === "Browser.downloadProgress" && params.state !== "inProgress") done(params.state);
     });
   });
   await browser.value("document.getElementById('save').click()");
-  await done;
+  isSo("the report is saved", await ended === "completed");
   const [name] = fs.readdirSync(folder);
   const octets = fs.readFileSync(path.join(folder, name));
   fs.rmSync(path.join(folder, name));
   return octets;
 }
+
+// Chromium asks the user after ten downloads.
+const EACH_SAVED = Math.ceil(files.length / 10);
 
 async function testPage(wanted) {
   const folder = fs.mkdtempSync(path.join(os.tmpdir(), "saved-"));
@@ -118,14 +130,17 @@ async function testPage(wanted) {
   try {
     const url = pathToFileURL(page).href;
     await browser.go(url);
-    for (const file of files) {
-      const got = await shown(browser, file);
+    for (const [i, file] of files.entries()) {
       const name = JSON.stringify(path.basename(file));
+      const got = await soon(`to show ${name}`, shown(browser, file));
       const { status, report, notes } = wanted.get(file);
       same(`the page's report on ${name}`, got.report, report.toString());
       same(`the page's notes on ${name}`, got.notes, notes.toString());
       isSo(`the page's status on ${name}: ${got.said}`, got.said.includes(`(exit status ${status})`));
-      same(`what is saved of ${name}`, await saved(browser, folder), report);
+      if (i % EACH_SAVED === 0) {
+        const octets = await soon(`to save ${name}`, saved(browser, folder));
+        same(`what is saved of ${name}`, octets, report);
+      }
       isSo(`markup in the report on ${name}: ${got.tags}`, got.tags.every(it => TAGS.has(it)));
       isSo(`a script ran in the report on ${name}`, got.pwned === undefined);
     }
@@ -199,12 +214,12 @@ async function makePictures() {
   const file = files.find(it => it.endsWith("bad-as-bird.pcap")) ?? files[0];
   try {
     await browser.go(pathToFileURL(page).href);
+    await browser.look(path.join(looks, "empty.png"));
+    await shown(browser, file);
     for (const [name, width, dark] of [["light", 1280, false], ["dark", 1280, true], ["narrow", 400, false]]) {
       await browser.width(width);
       await browser.dark(dark);
-      if (name === "light") await browser.look(path.join(looks, "empty.png"));
-      await shown(browser, file);
-      await browser.value("new Promise(done => setTimeout(done, 300))");
+      await browser.value("new Promise(done => setTimeout(done, 500))");
       await browser.look(path.join(looks, `${name}.png`));
     }
     await browser.width(1280);
