@@ -41,7 +41,7 @@ abbrev pub large_communities_in : List ℕ → List LargeCommunity
 large_communities_in octets = large_communities_at (length octets / 12) octets
 
 -- the list that an attribute says, empty where there is none: of equal ones the first alone
--- (RFC 8092, 5)
+-- (RFC 8092, 3)
 abbrev pub large_communities_from : Option (List ℕ) → List LargeCommunity
 large_communities_from value =
     option_map_or (λ octets. without_repeats (large_communities_in octets)) value []

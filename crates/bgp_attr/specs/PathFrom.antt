@@ -1,6 +1,6 @@
 -- The value of a route whose attributes have these values: of each type what the first attribute
 -- says, if it is of class Good (RFC 4271, 5; RFC 6793, 4.2.3;
--- RFC 8092, 5).
+-- RFC 8092, 3).
 use Rattle.std.specs.Prelude.{ℕ, ◌==◌, Bool, true, false, not, if◌then◌else◌, List, [], drop}
 use Rattle.std.specs.Prelude.{slice_index, Option, None, Some, is_some}
 use Rattle.std.specs.Option.{option_map, option_map_or}

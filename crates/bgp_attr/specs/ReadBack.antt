@@ -14,7 +14,7 @@ use Rattle.bgp_attr.specs.Types.{type_number}
 use Rattle.bgp_attr.specs.Writing.{attribute_in, path_attributes}
 
 -- an external peer is sent no LOCAL_PREF, ORIGINATOR_ID and CLUSTER_LIST, which it would discard
--- (RFC 4271, 5.1.5; RFC 4456, 8), and no peer a large community twice (RFC 8092, 5)
+-- (RFC 4271, 5.1.5; RFC 4456, 8), and no peer a large community twice (RFC 8092, 3)
 abbrev pub IsForPeer : Side → PathValue → Type 0
 IsForPeer side p =
     (IsTrue side.internal

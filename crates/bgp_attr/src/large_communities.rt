@@ -103,7 +103,7 @@ fn read_many<A: Allocator + Copy>(
     Ok(communities)
 }
 
-/// The large communities in their order, of equal ones the first alone (RFC 8092, 5).
+/// The large communities in their order, of equal ones the first alone (RFC 8092, 3).
 pub(crate) fn read_large_communities<A: Allocator + Copy>(
     alloc: A,
     octets: &[u8],

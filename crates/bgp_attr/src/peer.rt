@@ -9,7 +9,7 @@ use std::alloc::Allocator;
 
 /// Whether the path may be sent to a peer of this side as it is. LOCAL_PREF, ORIGINATOR_ID and
 /// CLUSTER_LIST are for an internal peer, and another would discard them (RFC 4271, 5.1.5;
-/// RFC 4456, 8). A large community isn't sent twice (RFC 8092, 5).
+/// RFC 4456, 8). A large community isn't sent twice (RFC 8092, 3).
 pub fn is_for_peer<A: Allocator>(side: Side, path: &Path<A>) -> bool
     ensures for_peer { IsTrue result ↔ IsForPeer side path.now }
 {

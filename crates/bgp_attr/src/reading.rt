@@ -285,7 +285,7 @@ fn read_long_items<A: Allocator>(
     }
 }
 
-/// LARGE_COMMUNITY: of equal large communities the first alone (RFC 8092, 5).
+/// LARGE_COMMUNITY: of equal large communities the first alone (RFC 8092, 3).
 fn read_large_items<A: Allocator + Copy>(
     alloc: A,
     side: Side,

@@ -11,7 +11,7 @@ same_large_community c d =
     && ((c.local_data_part_1 == d.local_data_part_1)
     && (c.local_data_part_2 == d.local_data_part_2))
 
--- its numbers in decimal with colons, octet 58, between them (RFC 8092, 4)
+-- its numbers in decimal with colons, octet 58, between them (RFC 8092, 5)
 abbrev pub large_community_text : LargeCommunity → List ℕ
 large_community_text c =
     decimal c.global_administrator
@@ -21,7 +21,7 @@ large_community_text c =
 abbrev pub has_large_community : List LargeCommunity → LargeCommunity → Bool
 has_large_community cs c = list_any (λ d. same_large_community d c) cs
 
--- of equal ones the first alone (RFC 8092, 5; profile: their order stays)
+-- of equal ones the first alone (RFC 8092, 3; profile: their order stays)
 abbrev pub without_repeats : List LargeCommunity → List LargeCommunity
 without_repeats [] = []
 without_repeats (c ∷ cs) = c ∷ filter (λ d. not (same_large_community c d)) (without_repeats cs)

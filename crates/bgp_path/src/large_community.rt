@@ -18,7 +18,7 @@ pub struct LargeCommunity {
     pub local_data_part_2: u32,
 }
 
-/// Its numbers in decimal with colons between them (RFC 8092, 4).
+/// Its numbers in decimal with colons between them (RFC 8092, 5).
 impl Display for LargeCommunity {
     ghost output = { λ community. Some (large_community_text community) };
 
@@ -33,7 +33,7 @@ impl Display for LargeCommunity {
     }
 }
 
-/// Whether no two of them are equal: a repeat isn't to be sent (RFC 8092, 5).
+/// Whether no two of them are equal: a repeat isn't to be sent (RFC 8092, 3).
 pub fn are_distinct(communities: &[LargeCommunity]) -> bool
     ensures { IsTrue result ↔ IsDistinct same_large_community communities.now }
 {

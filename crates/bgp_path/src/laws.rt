@@ -15,7 +15,7 @@ pub fn merge_keeps_the_count()
 {}
 
 /// Of large communities that are equal the first alone stays, each of the others in its place
-/// (RFC 8092, 5).
+/// (RFC 8092, 3).
 pub fn keeps_the_first()
     ensures { KeepsTheFirst }
 {}

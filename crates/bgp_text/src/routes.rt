@@ -145,7 +145,7 @@ fn put_extended<W: Sink>(lines: &mut Lines<'_, W>, values: &[u64])
     }
 }
 
-/// LARGE_COMMUNITY, where there are some: the three numbers of each (RFC 8092, 4).
+/// LARGE_COMMUNITY, where there are some: the three numbers of each (RFC 8092, 5).
 fn put_large<W: Sink>(lines: &mut Lines<'_, W>, values: &[LargeCommunity])
     ensures { Writes lines.old lines.new
         (list_text (codes " large") large_community_text values.now) }

@@ -54,7 +54,7 @@ pub enum UpdateFault {
     #[error("the session exchanges no routes of this family")]
     FamilyNotInUse = 2,
     /// A prefix or the next hop isn't of the family, the peer would discard an attribute, a large
-    /// community stands twice (RFC 8092, 5), or the peer expects path identifiers before prefixes
+    /// community stands twice (RFC 8092, 3), or the peer expects path identifiers before prefixes
     /// of the family (RFC 7911, 3), which aren't written yet.
     #[error("the peer would not take the UPDATE as it is meant")]
     NotClean = 3,

@@ -14,7 +14,7 @@ fn large(numbers: Numbers) -> LargeCommunity {
     }
 }
 
-/// Large communities, and their texts: the examples of RFC 8092, 4, the least and the greatest.
+/// Large communities, and their texts: the examples of RFC 8092, 5, the least and the greatest.
 static TEXTS: [(Numbers, &str); 4] = [
     ((64496, 4294967295, 2), "64496:4294967295:2"),
     ((64496, 0, 0), "64496:0:0"),
