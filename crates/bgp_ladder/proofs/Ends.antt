@@ -1,5 +1,5 @@
 -- The pieces of a text, put one behind another.
-use Rattle.std.proofs.Common.{◌≡◌, ◌++◌, ℕ, List, [], append-nil, sym, subst}
+use Rattle.std.proofs.Common.{◌++◌, ℕ, List, [], append-nil, sym, subst}
 use Rattle.std.proofs.lemmas.Grind.{flat_map-append}
 use Rattle.mrt.specs.declared.sink.Sink as sinks
 use Rattle.bgp_text.specs.Lines.{Writes}

@@ -1,5 +1,5 @@
 -- A message of another type than OPEN.
-use Rattle.std.proofs.Common.{◌≡◌, ◌≢◌, ◌∙◌, ◌<◌, ℕ, Bool, true, false, List, ap, arith, get_or, if◌then◌else◌, length, sym, take}
+use Rattle.std.proofs.Common.{◌≡◌, ◌≢◌, ◌∙◌, ◌<◌, ℕ, List, arith, length, sym}
 use Rattle.std.proofs.lemmas.List.{get_or-take}
 use Rattle.std.proofs.lemmas.Bool.{lt-ltb}
 use Rattle.bgp_wire.specs.Header.{header_of, type_of as type_in}

@@ -1,6 +1,5 @@
 -- Where the first octet 0 stands, and how many there are, by a search.
-use Rattle.std.proofs.Common.{◌≡◌, ◌∙◌, ◌+◌, ◌-◌, ◌<◌, ◌≤◌, ◌==◌, ℕ, zero, suc, Bool, true, false, List, [], ◌∷◌, ap, arith, drop, get_or, if◌then◌else◌, length, refl, sym}
-use Rattle.std.proofs.lemmas.Bool.{false≢true}
+use Rattle.std.proofs.Common.{◌≡◌, ◌∙◌, ◌+◌, ◌<◌, ◌==◌, ℕ, zero, suc, Bool, true, false, List, [], ◌∷◌, ap, arith, drop, if◌then◌else◌, length, refl, sym}
 use Rattle.memchr.specs.Find.{Nowhere, Passes, is_byte}
 use Rattle.bgp_ladder.specs.Batch.{first_zero, zeros}
 
