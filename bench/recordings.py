@@ -10,6 +10,8 @@ tcpdump writes them, of one session between 192.0.2.1 (port 179, AS 65001) and 1
     recordings.py both COUNT RATE   both announce so many prefixes, in an UPDATE each and so many in
                                     a second; then the local system sends an OPEN again
     recordings.py each COUNT RATE   the same, and the peer sends an OPEN again, too
+    recordings.py turns COUNT       both announce so many prefixes, in an UPDATE each and by turns, one
+                                    of either in a second: so no two of one direction follow each other
 
 It is written to standard output."""
 import struct
@@ -20,6 +22,9 @@ PORTS = {LOCAL: 179, PEER: 40000}
 FIN, SYN, ACK = 1, 2, 16
 # What a segment has at the most: an Ethernet frame's 1500 octets, less both headers and a timestamp.
 ROOM = 1448
+
+# Who sends an OPEN again, of the recordings that have UPDATEs of both systems.
+ENDS = {'both': (LOCAL,), 'each': (LOCAL, PEER), 'turns': ()}
 
 write = sys.stdout.buffer.write
 
@@ -117,10 +122,10 @@ def others(octets):
         write(block)
 
 
-def main(kind, count, rate=0):
+def main(kind, count, rate=1):
     write(struct.pack('<IHHiIII', 0xa1b2c3d4, 2, 4, 0, 0, 262144, 101))
-    if kind in ('both', 'each'):
-        both(count, rate, (LOCAL,) if kind == 'both' else (LOCAL, PEER))
+    if kind in ENDS:
+        both(count, rate, ENDS[kind])
         return
     if kind == 'others':
         others(count)

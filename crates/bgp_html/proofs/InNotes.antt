@@ -1,5 +1,5 @@
 -- What is noted octet by octet are the lines that say what could have come.
-use Rattle.std.proofs.Common.{◌≡◌, ◌∙◌, ◌++◌, ◌==◌, ◌≤◌, ◌+◌, ◌≢◌, ◌||◌, ℕ, Bool, true, false, List, [], ◌∷◌, length, if◌then◌else◌, refl, sym, ap, ap₂, append_assoc, append-nil, arith, Option, None, subst}
+use Rattle.std.proofs.Common.{◌≡◌, ◌∙◌, ◌++◌, ◌==◌, ◌≤◌, ◌≢◌, ℕ, Bool, true, false, List, [], ◌∷◌, length, if◌then◌else◌, refl, sym, ap, ap₂, append_assoc, append-nil, arith, Option, None}
 use Rattle.std.proofs.lemmas.Bool.{eqb-false, eqb-true, false≢true}
 use Rattle.std.specs.Prelude.{IsFalse}
 use Rattle.mrt.specs.declared.sink.Sink as sinks
@@ -10,7 +10,7 @@ use Rattle.bgp_html.specs.Kinds.{kind_of}
 use Rattle.bgp_html.specs.Noted.{Noted, NotesAreLines, are_answers, begun, is_answer, is_possible, more, noted_of, nothing_noted, possible_in, with_line, with_lines, with_rest}
 use Rattle.bgp_html.specs.Notes.{IsNotedBy, noted_by}
 use Rattle.bgp_html.specs.Report.{lines_from}
-use Rattle.bgp_html.specs.Taking.{Front, Place, Puts, Within, end_notes, notes_at, notes_from, place_after, place_behind, place_of}
+use Rattle.bgp_html.specs.Taking.{Front, Place, Puts, Within, end_notes, notes_from, place_after, place_of}
 use Rattle.bgp_html.specs.declared.notes.Notes.{Notes}
 use Rattle.bgp_html.specs.declared.printed.Kind.{Kind}
 use Rattle.bgp_html.specs.declared.printed.Kind.TheVariants as kinds

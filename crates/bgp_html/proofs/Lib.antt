@@ -1,5 +1,6 @@
 mod Octets
 mod Plain
+mod FirstEnd
 mod Texts
 mod Names
 pub mod Seen

@@ -1,6 +1,6 @@
 -- What is noted of a text: of each answer, in their order, the lines that say what could have come,
 -- or had to.
-use Rattle.std.specs.Prelude.{◌≡◌, ◌++◌, ℕ, Bool, true, false, List, [], ◌∷◌, Option, None, Some}
+use Rattle.std.specs.Prelude.{◌≡◌, ◌++◌, ℕ, Bool, true, false, List, [], ◌∷◌}
 use Rattle.std.specs.Prelude.{if◌then◌else◌, slice_get, unwrap_or}
 use Rattle.std.specs.List.{flat_map, list_any}
 use Rattle.bgp_html.specs.Kinds.{kind_of}

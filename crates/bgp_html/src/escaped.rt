@@ -1,10 +1,11 @@
 //! Text as HTML has it.
 
-ghost use Rattle.std.specs.Prelude.{◌≡◌, ◌∷◌, [], IsTrue};
+ghost use Rattle.std.specs.Prelude.{◌≡◌, IsTrue};
 ghost use Rattle.bgp_text.specs.Lines.{Writes};
 ghost use Rattle.bgp_html.specs.Escaped.{escape_octet, escaped};
 
 use bgp_text::Lines;
+use memchr::{memchr2, memchr3};
 use mrt::Sink;
 
 /// Puts an octet of a text.
@@ -31,31 +32,11 @@ fn put_each<W: Sink>(lines: &mut Lines<'_, W>, text: &[u8])
     }
 }
 
-/// Checks whether HTML has an octet as it is.
-#[tactic(auto, unfolding(crate::specs::Escaped::escape_octet))]
-fn is_plain(octet: u8) -> bool
-    ensures { IsTrue result → escape_octet octet ≡ octet ∷ [] }
-{
-    match octet {
-        b'&' => false,
-        b'<' => false,
-        b'>' => false,
-        b'"' => false,
-        b'\'' => false,
-        _ => true,
-    }
-}
-
 /// Checks whether HTML has a text as it is.
 fn are_plain(text: &[u8]) -> bool
     ensures { IsTrue result → escaped text.now ≡ text.now }
 {
-    for octet in text {
-        if !is_plain(*octet) {
-            return false;
-        }
-    }
-    true
+    memchr3(b'&', b'<', b'>', text).is_none() && memchr2(b'"', b'\'', text).is_none()
 }
 
 /// Puts a text into HTML, between tags or in an attribute: `&`, `<`, `>` and both quotation marks

@@ -14,6 +14,7 @@ use crate::notes::Notes;
 use crate::printed::{Kind, kind_of, put_begun, put_end, put_line};
 use arrayvec::ArrayVec;
 use bgp_text::Lines;
+use memchr::memchr;
 use mrt::{Failed, Sink};
 use std::alloc::Allocator;
 
@@ -39,12 +40,10 @@ fn first_end(octets: &[u8]) -> usize
     ensures value { result ≡ first_end octets.now }
     ensures within { result ≤ length octets.now }
 {
-    for place in 0..octets.len() {
-        if octets[place] == b'\n' {
-            return place;
-        }
+    match memchr(b'\n', octets) {
+        Some(place) => place,
+        None => octets.len(),
     }
-    octets.len()
 }
 
 impl<'a, A: Allocator + Copy, W: Sink> Report<'a, A, W> {

@@ -2,7 +2,9 @@
 
 ghost use Rattle.bgp_text.specs.Lines.{Writes};
 ghost use Rattle.bgp_html.specs.Tags.{mark_class, row_text, tag_text, what_class};
+ghost use Rattle.bgp_html.specs.declared.tag.Mark.TheVariants.{Plain};
 ghost use Rattle.bgp_html.specs.declared.tag.Tag.TheVariants.{Change, ChangeEnd, Ladder};
+ghost use Rattle.bgp_html.specs.declared.tag.What.TheVariants.{Received, Sent};
 
 use crate::page::{put_after_name, put_after_title, put_ladders_start, put_page_start};
 use bgp_text::Lines;
@@ -116,14 +118,56 @@ fn put_mark<W: Sink>(lines: &mut Lines<'_, W>, mark: Mark)
     }
 }
 
-/// Puts the start of a row.
-fn put_row<W: Sink>(lines: &mut Lines<'_, W>, what: What, mark: Mark)
+/// Puts the start of a row that isn't marked, of a message that this column sent.
+fn put_sent_row<W: Sink>(lines: &mut Lines<'_, W>, column: Column)
+    ensures { Writes lines.old lines.new (row_text (Sent column) Plain) }
+{
+    match column {
+        Column::Left => lines.put(b"<tr class=\"m s to\"><td>"),
+        Column::Right => lines.put(b"<tr class=\"m s fro\"><td>"),
+    }
+}
+
+/// The same, of a message that it received.
+fn put_received_row<W: Sink>(lines: &mut Lines<'_, W>, column: Column)
+    ensures { Writes lines.old lines.new (row_text (Received column) Plain) }
+{
+    match column {
+        Column::Left => lines.put(b"<tr class=\"m r fro\"><td>"),
+        Column::Right => lines.put(b"<tr class=\"m r to\"><td>"),
+    }
+}
+
+/// Puts the start of a row that isn't marked: at once, since most rows are not.
+fn put_plain_row<W: Sink>(lines: &mut Lines<'_, W>, what: What)
+    ensures { Writes lines.old lines.new (row_text what Plain) }
+{
+    match what {
+        What::Sent(column) => put_sent_row(lines, column),
+        What::Received(column) => put_received_row(lines, column),
+        What::Changed => lines.put(b"<tr class=\"c\"><td>"),
+        What::Run => lines.put(b"<tr class=\"run\"><td>"),
+    }
+}
+
+/// Puts the start of a row that is marked.
+fn put_marked_row<W: Sink>(lines: &mut Lines<'_, W>, what: What, mark: Mark)
     ensures { Writes lines.old lines.new (row_text what mark) }
 {
     lines.put(b"<tr class=\"");
     put_what(lines, what);
     put_mark(lines, mark);
     lines.put(b"\"><td>");
+}
+
+/// Puts the start of a row.
+fn put_row<W: Sink>(lines: &mut Lines<'_, W>, what: What, mark: Mark)
+    ensures { Writes lines.old lines.new (row_text what mark) }
+{
+    match mark {
+        Mark::Plain => put_plain_row(lines, what),
+        Mark::No | Mark::Behind | Mark::Possible => put_marked_row(lines, what, mark),
+    }
 }
 
 /// Puts the start of a ladder.
@@ -160,6 +204,7 @@ fn put_change_end<W: Sink>(lines: &mut Lines<'_, W>, column: Column)
 }
 
 /// Puts a piece of markup.
+#[inline(always)]
 #[tactic(auto, unfolding(crate::specs::Tags::tag_text))]
 pub fn put_tag<W: Sink>(lines: &mut Lines<'_, W>, tag: Tag)
     ensures { Writes lines.old lines.new (tag_text tag) }

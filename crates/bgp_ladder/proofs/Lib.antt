@@ -1,6 +1,8 @@
 mod Ends
 mod InRuns
 mod Plain
+mod ZeroPlaces
+mod NoOpen
 mod Words
 mod OneRow
 mod InPossible

@@ -10,11 +10,13 @@ use crate::deed::deeds_of;
 use crate::runs::Part;
 use bgp_recording::{Entry, Framings};
 use bgp_values::Opens;
+use memchr::memchr;
 use mrt::Record;
 use std::alloc::{AllocError, Allocator};
 
-/// The words of so many octets of records are made at once, at the most, or those of one record.
-const AT_ONCE: usize = 1 << 16;
+/// The words of so many octets of records are made at once, at the most, or those of one record:
+/// mostly fewer than `Lines` holds, so that they come in one piece.
+const AT_ONCE: usize = 1 << 15;
 
 /// A record counts as so many octets, at the least.
 const LEAST: usize = 64;
@@ -36,10 +38,10 @@ fn zeros_in(octets: &[u8]) -> usize
     ensures { result ≡ zeros octets.now }
 {
     let mut count = 0;
-    for octet in octets {
-        if *octet == 0 {
-            count += 1;
-        }
+    let mut rest = octets;
+    while let Some(place) = memchr(0, rest) {
+        count += 1;
+        rest = rest.split_at(place + 1).1;
     }
     count
 }
@@ -49,12 +51,10 @@ fn first_zero(octets: &[u8]) -> usize
     ensures value { result ≡ first_zero octets.now }
     ensures within { result ≤ length octets.now }
 {
-    for place in 0..octets.len() {
-        if octets[place] == 0 {
-            return place;
-        }
+    match memchr(0, octets) {
+        Some(place) => place,
+        None => octets.len(),
     }
-    octets.len()
 }
 
 /// Returns where the words of the first of so many records end.

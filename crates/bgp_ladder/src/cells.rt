@@ -39,9 +39,9 @@ fn last_digit(number: u64) -> u8
     b'0' + (number % 10) as u8
 }
 
-/// Puts microseconds as a fraction of a second.
+/// Puts microseconds as a fraction of a second, and the unit behind it.
 fn put_fraction<W: Sink>(lines: &mut Lines<'_, W>, micros: u64)
-    ensures { Writes lines.old lines.new (escaped (fraction_words micros)) }
+    ensures { Writes lines.old lines.new (fraction_words micros ++ codes " s") }
 {
     let digits = [
         b'.',
@@ -51,27 +51,28 @@ fn put_fraction<W: Sink>(lines: &mut Lines<'_, W>, micros: u64)
         last_digit(micros / 100),
         last_digit(micros / 10),
         last_digit(micros),
+        b' ',
+        b's',
     ];
-    put_escaped(lines, &digits);
+    lines.put(&digits);
 }
 
 /// Puts how many microseconds a packet is behind the first, as seconds.
 fn put_precise<W: Sink>(lines: &mut Lines<'_, W>, micros: u64)
     ensures { Writes lines.old lines.new (escaped (precise_words micros)) }
 {
-    put_escaped(lines, b"+");
-    put_number(lines, micros / 1_000_000);
+    lines.put(b"+");
+    lines.put_decimal(micros / 1_000_000);
     put_fraction(lines, micros);
-    put_escaped(lines, b" s");
 }
 
 /// Puts how many seconds a packet is behind the first, of which no fraction is known.
 fn put_whole<W: Sink>(lines: &mut Lines<'_, W>, first: Seconds, second: Seconds)
     ensures { Writes lines.old lines.new (escaped (whole_words first second)) }
 {
-    put_escaped(lines, b"+");
-    put_number(lines, u64::from(second.saturating_sub(first)));
-    put_escaped(lines, b" s");
+    lines.put(b"+");
+    lines.put_decimal(u64::from(second.saturating_sub(first)));
+    lines.put(b" s");
 }
 
 /// Puts how long an entry's packet is behind the first of the connection.
@@ -97,7 +98,7 @@ fn put_time_behind<W: Sink>(
         (escaped (time_behind ladder.now previous.now entry.now)) }
 {
     if entry.packet == previous.packet {
-        put_escaped(lines, b"");
+        lines.put(b"");
     } else {
         put_elapsed(lines, ladder, entry);
     }

@@ -1,10 +1,10 @@
 //! The rows of records.
 
-ghost use Rattle.std.specs.Prelude.{◌≡◌, ◌<◌, ◌∷◌, [], List, Some, OnErr, OnOk};
+ghost use Rattle.std.specs.Prelude.{◌≡◌, ◌<◌, ◌∷◌, [], ℕ, List, Some, OnErr, OnOk};
 ghost use Rattle.mrt.specs.Reader.{shown_of};
 ghost use Rattle.bgp_text.specs.Lines.{Writes};
 ghost use Rattle.bgp_html.specs.Pieces.{Piece, html_of};
-ghost use Rattle.bgp_values.specs.Opens.{AreOpens};
+ghost use Rattle.bgp_values.specs.Opens.{AreOpens, received_with, sent_with};
 ghost use Rattle.bgp_values.specs.declared.opens.Opens.{Opens};
 ghost use Rattle.bgp_lines.specs.Form.{Before as Messages, before_behind};
 ghost use Rattle.bgp_ladder.specs.Batch.{IsShownBy};
@@ -17,7 +17,7 @@ ghost use Rattle.bgp_ladder.specs.Ladder.{message_pieces, row_pieces, what_of};
 use crate::batch::{Batch, filled};
 use crate::cells::{put_numbers, put_time};
 use crate::possible::{put_behind, put_last};
-use crate::runs::{Part, Run, next_run, part_of};
+use crate::runs::{Part, Run, next_run, part_of, type_of};
 use crate::sums::put_sum;
 use bgp_html::{Column, Mark, Tag, What, put_escaped, put_tag};
 use bgp_prefix::Seconds;
@@ -26,6 +26,9 @@ use bgp_text::Lines;
 use bgp_values::{Direction, Opens};
 use mrt::{Record, Sink};
 use std::alloc::{AllocError, Allocator};
+
+/// The Type of an OPEN (RFC 4271, 4.1).
+const OPEN: u8 = 1;
 
 /// What is known of a ladder beside its entries.
 #[derive(Clone, Copy, Debug)]
@@ -199,6 +202,17 @@ fn put_entry<W: Sink>(
     put_behind(lines, ladder, possible, number);
 }
 
+/// Takes a message. Only an OPEN counts, and few messages are one.
+fn take_message(opens: &mut Opens, direction: Direction, octets: &[u8])
+    ensures { (received sent : List (List ℕ)) → AreOpens received sent opens.old
+        → AreOpens (received_with direction octets.now received)
+        (sent_with direction octets.now sent) opens.new }
+{
+    if type_of(octets) == OPEN {
+        opens.take(direction, octets);
+    }
+}
+
 /// Takes what a record shows.
 pub(crate) fn take_shown(opens: &mut Opens, shown: &Record<'_>)
     ensures { (before : Messages) → AreOpens before.received before.sent opens.old
@@ -206,8 +220,8 @@ pub(crate) fn take_shown(opens: &mut Opens, shown: &Record<'_>)
         (before_behind (shown_of shown.now) before).sent opens.new }
 {
     match shown {
-        Record::In(_, octets) => opens.take(Direction::Received, octets),
-        Record::Out(_, octets) => opens.take(Direction::Sent, octets),
+        Record::In(_, octets) => take_message(opens, Direction::Received, octets),
+        Record::Out(_, octets) => take_message(opens, Direction::Sent, octets),
         Record::Change(..) => {}
     }
 }

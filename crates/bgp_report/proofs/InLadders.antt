@@ -156,5 +156,5 @@ module _ (silent : RowsAreNotPrinted) where
     pub behind_silent : (marks : List BothMarks) (behind : List Piece) → AreBehind port within packets text marks behind → printed_of behind ≡ []
     behind_silent marks behind (inl (none, is)) = ap (λ (ps : List Piece). printed_of ps) is
     behind_silent marks behind (inr (inl is)) = ap (λ (ps : List Piece). printed_of ps) is
-    behind_silent marks behind (inr (inr (ladders, are, is))) =
+    behind_silent marks behind (inr (inr (some, ladders, are, is))) =
         ap (λ (ps : List Piece). printed_of ps) is ∙ both_silent ladders _ (ladders_silent 0 marks ladders are) refl

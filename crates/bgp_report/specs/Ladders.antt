@@ -276,8 +276,8 @@ module _ (port within : ℕ) (packets : List Recorded) (text : List ℕ) where
   AreBehind marks behind =
       ((list_any some_judged marks ≡ false) × (behind ≡ []))
       ⊎ (behind ≡ missing_pieces)
-      ⊎ ((ladders : List Piece) × AreLadders 0 marks ladders
-      × (behind ≡ section_pieces ladders))
+      ⊎ ((list_any some_judged marks ≡ true) × (ladders : List Piece)
+      × AreLadders 0 marks ladders × (behind ≡ section_pieces ladders))
 
   -- they were put, and nothing that is printed as text
   abbrev pub PutsBehind : {W : Type 0} {sink : sinks.Ghosts W} → List BothMarks → Lines W sink

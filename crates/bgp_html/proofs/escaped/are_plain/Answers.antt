@@ -1,7 +1,8 @@
-use Rattle.std.proofs.Common.{rules}
-use Rattle.bgp_html.proofs.Plain.{one_before}
+use Rattle.std.proofs.Common.{◌∙◌, ap, not}
+use Rattle.bgp_html.proofs.Plain.{none_found}
 use Rattle.bgp_html.proofs.escaped.are_plain.Goals as goal
 
-pub loop-octet-preserved : goal.loop-octet-preserved
-loop-octet-preserved c =
-    λ is. c.loop-octet.invariant (one_before c.args.text.now c.loop-octet.octet-index c.loop-octet-test.true (c.is_plain.ensures (let no = c.if-not-is_plain.false in search (rules, no))) is)
+pub returns-then-is_none : goal.returns-then-is_none
+returns-then-is_none c = λ none.
+    none_found c.args.text.now c.memchr3.result c.memchr2.result (c.is_none.ensures ∙ ap not c.if-is_none.true) (c.is_none-then-is_none.ensures ∙ ap not none)
+    c.memchr3.ensures c.memchr2.ensures

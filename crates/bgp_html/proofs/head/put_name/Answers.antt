@@ -5,8 +5,6 @@ use Rattle.std.specs.List.{flat_map}
 use Rattle.bgp_text.proofs.Joined.{one_more, none_left}
 use Rattle.bgp_text.proofs.Pieces.{Joins, and_then, nothing_yet}
 use Rattle.bgp_text.specs.Lines.{Writes}
-use Rattle.bgp_html.specs.Escaped.{escaped}
-use Rattle.bgp_html.specs.Report.{name_octet, shown_name}
 use Rattle.bgp_html.proofs.Names.{name_html, shown_html}
 use Rattle.bgp_html.proofs.head.put_name.Goals as goal
 

@@ -1,4 +1,4 @@
-use Rattle.std.proofs.Common.{◌≡◌, ◌∙◌, ◌++◌, [], List, ℕ, ap, append-nil, append_assoc, arith, refl, subst, sym}
+use Rattle.std.proofs.Common.{◌≡◌, ◌∙◌, ◌++◌, [], List, ℕ, ap, append_assoc, refl, subst, sym}
 use Rattle.std.proofs.lemmas.List.{take-append-drop}
 use Rattle.bgp_html.specs.Taking.{Puts, puts_joined, puts_nothing}
 use Rattle.bgp_html.proofs.report.Report.put.Goals as goal

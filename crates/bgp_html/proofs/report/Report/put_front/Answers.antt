@@ -1,4 +1,4 @@
-use Rattle.std.proofs.Common.{◌∙◌, sym}
+use Rattle.std.proofs.Common.{◌∙◌}
 use Rattle.bgp_html.proofs.Steps.{begins}
 use Rattle.bgp_html.proofs.report.Report.put_front.Goals as goal
 

@@ -1,5 +1,5 @@
 use Rattle.bgp_text.proofs.Pieces.{Joins, and_then}
-use Rattle.bgp_html.proofs.tag.put_row.Goals as goal
+use Rattle.bgp_html.proofs.tag.put_marked_row.Goals as goal
 
 pub returns : goal.returns
 returns g c =
