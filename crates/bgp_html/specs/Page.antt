@@ -109,17 +109,18 @@ about_text =
 -- and their words
 abbrev pub words_text : List ℕ
 words_text =
-    codes "An end is one of both routers of a connection. A record is a message that "
-    ++ (codes "it sent or received, or a change of its state. could come here: the "
-    ++ (codes "standard allows this in place of the record. or: it allows this, too, and "
-    ++ (codes "nothing but these. had to come here: the same, but no message can be "
-    ++ (codes "received before it. could come next, had to come next: the same after the "
-    ++ (codes "last record. refused: it cannot be read, and is not judged. open at the end "
-    ++ (codes "of the file: no packet ended the connection. A single - stands for nothing: "
-    ++ (codes "no prefix, or no attribute. origin 0, 1 and 2 are IGP, EGP and INCOMPLETE. "
-    ++ (codes "Within so many seconds a message that came is handled: 10, unless --within "
-    ++ (codes "says another number. The standard sets no such time; the 10 seconds are a "
-    ++ codes "choice of bgp.")))))))))
+    codes "The two routers of a connection are its ends, and each yes, no or "
+    ++ (codes "unfinished is about one end. A record is one message that the end sent or "
+    ++ (codes "received, or one change of its state. could come here: the standard "
+    ++ (codes "allows this in place of the record that the no names. or: it allows this, "
+    ++ (codes "too, and nothing but these. had to come here: the same, and the router "
+    ++ (codes "could receive no other message before it. could come next, had to come "
+    ++ (codes "next: the same after the last record. refused: it cannot be read, and is "
+    ++ (codes "not judged. open at the end of the file: no packet ended the connection. "
+    ++ (codes "A single - stands for nothing: no prefix, or no attribute. origin 0, 1 "
+    ++ (codes "and 2 are IGP, EGP and INCOMPLETE. A message that came is handled within "
+    ++ (codes "10 seconds, or within as many as --within says. The standard sets no such "
+    ++ codes "time; the 10 seconds are a choice of bgp."))))))))))
 
 abbrev pub after_name : List ℕ
 after_name =
@@ -130,18 +131,20 @@ after_name =
 
 abbrev pub ladders_text : List ℕ
 ladders_text =
-    codes "The records of each end that is judged, a row each, in the order that bgp "
-    ++ (codes "import makes: one in which the router can have handled them. Seconds are "
-    ++ (codes "counted from the first packet of the connection; a row without a time is of "
-    ++ (codes "the same packet as the row above it. came before: the packet came before "
-    ++ (codes "that of a row above it, and was handled after it. No packet shows a change "
-    ++ (codes "of state: it stands at the packet of the message beside it, or of the end "
-    ++ (codes "of the connection. The row of a no has a cross. The dashed rows below it "
-    ++ (codes "say what could have come in its place, or had to: they are lines of the "
-    ++ (codes "answer above. At the end of a ladder they say what is due next. The rows "
-    ++ (codes "after those of a no are pale: they are not judged. If the answer names an "
-    ++ (codes "earlier packet in the order of bgp import, that one is not allowed in this "
-    ++ codes "order alone; the message of the row with the cross is not allowed in any."))))))))))
+    codes "Each end that is judged has a table here: its records, a row each, in the "
+    ++ (codes "order that bgp import makes, in which the router can have handled them. "
+    ++ (codes "An arrow points from the sender of a message to its receiver. Seconds are "
+    ++ (codes "counted from the first packet of the connection; a row without a time is "
+    ++ (codes "of the same packet as the row above it. came before: the packet came "
+    ++ (codes "before that of a row above it, and was handled after it. No packet shows "
+    ++ (codes "a change of state: it stands at the packet of the message beside it, or "
+    ++ (codes "of the end of the connection. The row of a no has a cross. The dashed "
+    ++ (codes "rows below it say what could have come in its place, or had to: they are "
+    ++ (codes "lines of the answer above. Dashed rows at the end of a table say what is "
+    ++ (codes "due next. The rows after those of a no are pale: they are not judged. If "
+    ++ (codes "the answer names an earlier packet in the order of bgp import, that one "
+    ++ (codes "is not allowed in this order alone; the message of the row with the cross "
+    ++ codes "is not allowed in any."))))))))))))
 
 abbrev pub ladders_start : List ℕ
 ladders_start =

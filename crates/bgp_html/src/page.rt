@@ -156,17 +156,18 @@ fn put_about<W: Sink>(lines: &mut Lines<'_, W>)
 fn put_words<W: Sink>(lines: &mut Lines<'_, W>)
     ensures { Writes lines.old lines.new words_text }
 {
-    lines.put(b"An end is one of both routers of a connection. A record is a message that ");
-    lines.put(b"it sent or received, or a change of its state. could come here: the ");
-    lines.put(b"standard allows this in place of the record. or: it allows this, too, and ");
-    lines.put(b"nothing but these. had to come here: the same, but no message can be ");
-    lines.put(b"received before it. could come next, had to come next: the same after the ");
-    lines.put(b"last record. refused: it cannot be read, and is not judged. open at the end ");
-    lines.put(b"of the file: no packet ended the connection. A single - stands for nothing: ");
-    lines.put(b"no prefix, or no attribute. origin 0, 1 and 2 are IGP, EGP and INCOMPLETE. ");
-    lines.put(b"Within so many seconds a message that came is handled: 10, unless --within ");
-    lines.put(b"says another number. The standard sets no such time; the 10 seconds are a ");
-    lines.put(b"choice of bgp.");
+    lines.put(b"The two routers of a connection are its ends, and each yes, no or ");
+    lines.put(b"unfinished is about one end. A record is one message that the end sent or ");
+    lines.put(b"received, or one change of its state. could come here: the standard ");
+    lines.put(b"allows this in place of the record that the no names. or: it allows this, ");
+    lines.put(b"too, and nothing but these. had to come here: the same, and the router ");
+    lines.put(b"could receive no other message before it. could come next, had to come ");
+    lines.put(b"next: the same after the last record. refused: it cannot be read, and is ");
+    lines.put(b"not judged. open at the end of the file: no packet ended the connection. ");
+    lines.put(b"A single - stands for nothing: no prefix, or no attribute. origin 0, 1 ");
+    lines.put(b"and 2 are IGP, EGP and INCOMPLETE. A message that came is handled within ");
+    lines.put(b"10 seconds, or within as many as --within says. The standard sets no such ");
+    lines.put(b"time; the 10 seconds are a choice of bgp.");
 }
 
 /// Puts what stands between the heading and the first connection.
@@ -184,18 +185,20 @@ pub(crate) fn put_after_name<W: Sink>(lines: &mut Lines<'_, W>)
 fn put_about_ladders<W: Sink>(lines: &mut Lines<'_, W>)
     ensures { Writes lines.old lines.new ladders_text }
 {
-    lines.put(b"The records of each end that is judged, a row each, in the order that bgp ");
-    lines.put(b"import makes: one in which the router can have handled them. Seconds are ");
-    lines.put(b"counted from the first packet of the connection; a row without a time is of ");
-    lines.put(b"the same packet as the row above it. came before: the packet came before ");
-    lines.put(b"that of a row above it, and was handled after it. No packet shows a change ");
-    lines.put(b"of state: it stands at the packet of the message beside it, or of the end ");
-    lines.put(b"of the connection. The row of a no has a cross. The dashed rows below it ");
-    lines.put(b"say what could have come in its place, or had to: they are lines of the ");
-    lines.put(b"answer above. At the end of a ladder they say what is due next. The rows ");
-    lines.put(b"after those of a no are pale: they are not judged. If the answer names an ");
-    lines.put(b"earlier packet in the order of bgp import, that one is not allowed in this ");
-    lines.put(b"order alone; the message of the row with the cross is not allowed in any.");
+    lines.put(b"Each end that is judged has a table here: its records, a row each, in the ");
+    lines.put(b"order that bgp import makes, in which the router can have handled them. ");
+    lines.put(b"An arrow points from the sender of a message to its receiver. Seconds are ");
+    lines.put(b"counted from the first packet of the connection; a row without a time is ");
+    lines.put(b"of the same packet as the row above it. came before: the packet came ");
+    lines.put(b"before that of a row above it, and was handled after it. No packet shows ");
+    lines.put(b"a change of state: it stands at the packet of the message beside it, or ");
+    lines.put(b"of the end of the connection. The row of a no has a cross. The dashed ");
+    lines.put(b"rows below it say what could have come in its place, or had to: they are ");
+    lines.put(b"lines of the answer above. Dashed rows at the end of a table say what is ");
+    lines.put(b"due next. The rows after those of a no are pale: they are not judged. If ");
+    lines.put(b"the answer names an earlier packet in the order of bgp import, that one ");
+    lines.put(b"is not allowed in this order alone; the message of the row with the cross ");
+    lines.put(b"is not allowed in any.");
 }
 
 /// Puts the start of what stands after the text: a heading, and what the rows say.
