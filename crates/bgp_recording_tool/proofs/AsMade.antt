@@ -1,5 +1,5 @@
 -- A text that begins as a no at a record does is told of made records, and all orders aren't known.
-use Rattle.std.proofs.Common.{◌≡◌, ◌∙◌, ◌++◌, ℕ, true, false, List, Option, codes, get_or, refl, sym, ap}
+use Rattle.std.proofs.Common.{◌≡◌, ◌∙◌, ◌++◌, ℕ, true, false, List, Option, codes, get_or, inl, inr, refl, sym, ap}
 use Rattle.std.proofs.Math.Dec.{eqb}
 use Rattle.std.proofs.lemmas.Bool.{eq-eqb}
 use Rattle.std.specs.List.{flat_map}
@@ -13,7 +13,7 @@ use Rattle.bgp_import.specs.Refusals.{refusal_line}
 use Rattle.bgp_import.specs.declared.importing.Import.{Import}
 use Rattle.bgp_import.specs.declared.refusal.Refusal.{Refusal}
 use Rattle.bgp_recording_tool.specs.Connections.{IsTold}
-use Rattle.bgp_recording_tool.specs.Found.{Nothing}
+use Rattle.bgp_recording_tool.specs.Found.{TooMany}
 use Rattle.bgp_recording_tool.specs.Headline.{IsAsMade, NoAtRecordIsAsMade}
 use Rattle.bgp_recording_tool.specs.Told.{Told, Judged, NoOrder, InAnotherOrder, Refused, UnfinishedOverAll, no_order_line, told_status, told_text}
 use Rattle.bgp_recording_tool.specs.declared.remark.Remark.{Remark}
@@ -46,10 +46,12 @@ module _ (config : Config) (report : Report) (wanted : Import) (packets : List R
       → text ≡ told_text told → status ≡ told_status told → text ≡ codes "no at record " ++ rest
       → (count : ℕ) × (more : List ℕ) × (text ≡ no_line count ++ more) × (status ≡ 1) × IsAsMade config wanted packets segments number (No count)
   by_told text status remarks rest (Judged (Yes ends) more) is prints tells begins = absurd (is_yes (flat_map end_text ends ++ more) rest (sym prints ∙ begins))
-  by_told text status remarks rest (Judged (No count) more) is prints tells begins =
+  by_told text status remarks rest (Judged (No count) more) (inl is) prints tells begins =
+      absurd (no_nothing config wanted packets segments number count is.judged.is_found)
+  by_told text status remarks rest (Judged (No count) more) (inr is) prints tells begins =
       let judged = is.judged in
-      let made = made_verdict config wanted packets segments number named (No count) Nothing remarks judged in
-      (count, more, prints, tells, record { entries = judged.entries; made = made; many = no_nothing config wanted packets segments number count judged.is_found })
+      let made = made_verdict config wanted packets segments number named (No count) TooMany remarks judged in
+      (count, more, prints, tells, record { entries = judged.entries; made = made; many = judged.is_found.1 })
   by_told text status remarks rest (Judged Unfinished more) is prints tells begins = absurd (is_unfinished more rest (sym prints ∙ begins))
   by_told text status remarks rest (Refused refusal) is prints tells begins = absurd (is_refusal refusal rest (sym prints ∙ begins))
   by_told text status remarks rest (InAnotherOrder ends more) is prints tells begins = absurd (is_yes (flat_map end_text ends ++ more) rest (sym prints ∙ begins))

@@ -1,5 +1,5 @@
 -- What it says of all orders that nothing is found that is told in place of the made verdict.
-use Rattle.std.proofs.Common.{◌⊎◌, ℕ, List, Option, inl, inr}
+use Rattle.std.proofs.Common.{ℕ, List, Option, inl, inr}
 use Rattle.packets.specs.Packet.{Recorded}
 use Rattle.streams.specs.Passed.{Segment}
 use Rattle.bgp_open.specs.declared.config.Config.{Config}
@@ -22,15 +22,12 @@ module _ (config : Config) (wanted : Import) (packets : List Recorded) (segments
     is = judged.is;
   }
 
-  -- beside a no
-  pub no_nothing : (count : ℕ) → IsNothing config wanted packets segments number (No count) → IsOverAll config wanted packets segments number over.TooMany
+  -- not beside a no
+  pub no_nothing : (count : ℕ) → IsNothing config wanted packets segments number (No count) → ⊥
   no_nothing count (inl same) = absurd (let never = same in cc)
-  no_nothing count (inr (inl many)) = many
-  no_nothing count (inr (inr (unfinished, is))) = absurd (let never = unfinished in cc)
+  no_nothing count (inr (unfinished, is)) = absurd (let never = unfinished in cc)
 
   -- beside what is unfinished
-  pub unfinished_nothing : IsNothing config wanted packets segments number Unfinished
-      → IsOverAll config wanted packets segments number over.TooMany ⊎ IsOverAll config wanted packets segments number over.Unfinished
+  pub unfinished_nothing : IsNothing config wanted packets segments number Unfinished → IsOverAll config wanted packets segments number over.Unfinished
   unfinished_nothing (inl same) = absurd (let never = same in cc)
-  unfinished_nothing (inr (inl many)) = inl many
-  unfinished_nothing (inr (inr (same, is))) = inr is
+  unfinished_nothing (inr (same, is)) = is

@@ -25,7 +25,7 @@ use Rattle.bgp_explain.specs.Records.{SaysOfRecords, SaysOrNot}
 use Rattle.bgp_explain.specs.Text.{no_memory_line}
 use Rattle.bgp_explain.specs.declared.report.Report.TheVariants.{WithReason}
 use Rattle.bgp_recording_tool.specs.Connections.{IsMore, IsMoreOf}
-use Rattle.bgp_recording_tool.specs.Found.{Found, Nothing, ByNone, ByAnother, ByAll}
+use Rattle.bgp_recording_tool.specs.Found.{Found, Nothing, TooMany, ByNone, ByAnother, ByAll}
 use Rattle.bgp_recording_tool.specs.Laws.{AreOfOneOrder, RecordingsAreExplainedInOneWay}
 use Rattle.bgp_recording_tool.proofs.SameVerdict.{by_packets, records_by}
 
@@ -99,6 +99,7 @@ module _ (reason : HasOneReason) (config : Config) (octets : List ℕ) (entries 
       → IsMoreOf WithReason config entries others verdict found more → IsMoreOf WithReason config also beside judged found other → AreOfOneOrder found others beside
       → more ≢ no_memory_line → other ≢ no_memory_line → more ≡ other
   one_of others beside verdict judged Nothing more other is h k of some there = one_more Unasked verdict judged more other is h k some there
+  one_of others beside verdict judged TooMany more other is h k of some there = one_more Unasked verdict judged more other is h k some there
   one_of others beside verdict judged (ByNone u instead) more other is h k of some there = one_more instead verdict judged more other is h k some there
   one_of others beside verdict judged (ByAnother ends) more other is h k of some there =
       h ∙ sym (subst (λ (es : List Entry). IsMore WithReason config es Unasked (Yes ends) other) (sym of) k)

@@ -1,5 +1,5 @@
 -- What is printed of a connection is the verdict over all orders, unless there are too many.
-use Rattle.std.proofs.Common.{◌≡◌, ◌⊎◌, ◌++◌, ℕ, List, Option, inl, inr}
+use Rattle.std.proofs.Common.{◌≡◌, ◌⊎◌, ◌++◌, ℕ, List, Option, inl, inr, refl}
 use Rattle.std.specs.List.{flat_map}
 use Rattle.packets.specs.Packet.{Recorded}
 use Rattle.streams.specs.Passed.{Segment}
@@ -18,18 +18,12 @@ use Rattle.bgp_import.specs.Refusals.{refusal_line}
 use Rattle.bgp_import.specs.declared.importing.Import.{Import}
 use Rattle.bgp_import.specs.declared.refusal.Refusal.{Refusal}
 use Rattle.bgp_recording_tool.specs.Connections.{IsNotJudged, IsOverAll, IsTold, IsYesOfAnother}
-use Rattle.bgp_recording_tool.specs.Found.{Nothing, IsNoYes}
+use Rattle.bgp_recording_tool.specs.Found.{TooMany}
 use Rattle.bgp_recording_tool.specs.Headline.{IsPrintedOver, PrintsVerdictOverAll}
 use Rattle.bgp_recording_tool.specs.Told.{Told, Judged, NoOrder, InAnotherOrder, Refused, UnfinishedOverAll, refused_status, told_status, told_text}
 use Rattle.bgp_recording_tool.specs.declared.remark.Remark.{Remark}
 use Rattle.bgp_recording_tool.proofs.FoundNothing.{made_verdict, no_nothing, unfinished_nothing}
 use Rattle.bgp_recording_tool.proofs.MadeOverAll.{yes_over, yes_shown}
-
-no_is_no_yes : (count : ℕ) → IsNoYes (No count)
-no_is_no_yes count ends e = absurd (cc)
-
-unfinished_is_no_yes : IsNoYes Unfinished
-unfinished_is_no_yes ends e = absurd (cc)
 
 module _ (law : RunsOfEntriesAreWhole) (config : Config) (report : Report) (wanted : Import) (packets : List Recorded) (segments : List Segment) (number named : Option ℕ) where
   -- the yes of another order
@@ -50,26 +44,24 @@ module _ (law : RunsOfEntriesAreWhole) (config : Config) (report : Report) (want
       → text ≡ told_text told → status ≡ told_status told
       → ((verdict : OverOrders) × IsOverAll config wanted packets segments number verdict × IsPrintedOver config wanted packets segments number verdict text status)
       ⊎ ((refusal : Refusal) × IsNotJudged config wanted packets segments number named refusal remarks × (text ≡ refusal_line refusal) × (status ≡ refused_status refusal))
-  by_told text status remarks (Judged (Yes ends) more) is prints tells =
+  by_told text status remarks (Judged (Yes ends) more) (inl is) prints tells =
       let judged = is.judged in
       let over_all = yes_over config wanted.within (framings_of wanted.selection.session) judged.connection judged.entries judged.notes.received judged.notes.sent ends judged.made.recorded.told
       judged.is in
       inl (over.Yes, record { connection = judged.connection; chosen = judged.chosen; over_all = over_all }, (flat_map end_text ends ++ more, prints, tells))
-  by_told text status remarks (Judged (No count) more) is prints tells =
+  by_told text status remarks (Judged (Yes ends) more) (inr is) prints tells = absurd (is.judged.is_found.0 ends refl)
+  by_told text status remarks (Judged (No count) more) (inl is) prints tells =
+      absurd (no_nothing config wanted packets segments number count is.judged.is_found)
+  by_told text status remarks (Judged (No count) more) (inr is) prints tells =
       let judged = is.judged in
-      let made = made_verdict config wanted packets segments number named (No count) Nothing remarks judged in
-      inl (
-        over.TooMany,
-        no_nothing config wanted packets segments number count judged.is_found,
-        (judged.entries, No count, made, no_is_no_yes count, (more, prints, tells)),
-      )
-  by_told text status remarks (Judged Unfinished more) is prints tells =
+      let made = made_verdict config wanted packets segments number named (No count) TooMany remarks judged in
+      inl (over.TooMany, judged.is_found.1, (judged.entries, No count, made, judged.is_found.0, (more, prints, tells)))
+  by_told text status remarks (Judged Unfinished more) (inl is) prints tells =
+      inl (over.Unfinished, unfinished_nothing config wanted packets segments number is.judged.is_found, (more, prints, tells))
+  by_told text status remarks (Judged Unfinished more) (inr is) prints tells =
       let judged = is.judged in
-      let made = made_verdict config wanted packets segments number named Unfinished Nothing remarks judged in
-      elim (unfinished_nothing config wanted packets segments number judged.is_found) [
-        | inl many ↦ inl (over.TooMany, many, (judged.entries, Unfinished, made, unfinished_is_no_yes, (more, prints, tells)))
-        | inr found ↦ inl (over.Unfinished, found, (more, prints, tells))
-      ]
+      let made = made_verdict config wanted packets segments number named Unfinished TooMany remarks judged in
+      inl (over.TooMany, judged.is_found.1, (judged.entries, Unfinished, made, judged.is_found.0, (more, prints, tells)))
   by_told text status remarks (NoOrder u more) (verdict, instead, reported) prints tells =
       inl (over.No u, reported.judged.is_found.1, (more, prints, tells))
   by_told text status remarks (InAnotherOrder ends more) (verdict, reported) prints tells =

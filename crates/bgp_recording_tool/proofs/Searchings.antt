@@ -23,7 +23,7 @@ use Rattle.bgp_import.proofs.InOrder.{in_order}
 use Rattle.bgp_import.proofs.Telling.{is_clocked}
 use Rattle.bgp_ended.proofs.OneConnection.{same_answer}
 use Rattle.bgp_recording_tool.specs.Connections.{IsFound, IsFoundOver, IsInstead, IsInsteadOver, IsMadeVerdict}
-use Rattle.bgp_recording_tool.specs.Found.{Found, Nothing, ByNone, ByAnother, ByAll, IsNoYes, IsSought, IsYes, entries_of, found_of}
+use Rattle.bgp_recording_tool.specs.Found.{Found, Nothing, TooMany, ByNone, ByAnother, ByAll, IsNoYes, IsSought, IsYes, entries_of, found_of}
 use Rattle.bgp_recording_tool.specs.declared.orders.Searched.{Searched}
 use Rattle.bgp_recording_tool.specs.declared.orders.Searched.TheVariants as searches
 use Rattle.bgp_recording_tool.proofs.MadeOverAll.{no_over}
@@ -34,10 +34,10 @@ pub found_so : {X : Type 0} (config : Config) (wanted : Import) (packets : List 
     → IsAnswered number (length packets) (numbered (reverse segments)) connection → IsNoYes verdict → IsSought config verdict searched
     → IsFoundOver config wanted.within (framings_of wanted.selection.session) connection verdict (entries_of searched) (found_of searched)
     → IsFound config wanted packets segments number verdict (entries_of searched) (found_of searched)
-found_so config wanted packets segments number connection made verdict searches.Nothing taken is answered other sought (inl many) =
-    inr (inl (record { connection = connection; chosen = answered; over_all = many }))
-found_so config wanted packets segments number connection made verdict searches.Nothing taken is answered other sought (inr (same, unfinished)) =
-    inr (inr (same, record { connection = connection; chosen = answered; over_all = unfinished }))
+found_so config wanted packets segments number connection made verdict searches.Nothing taken is answered other sought (same, unfinished) =
+    inr (same, record { connection = connection; chosen = answered; over_all = unfinished })
+found_so config wanted packets segments number connection made verdict searches.TooMany taken is answered other sought over =
+    (other, record { connection = connection; chosen = answered; over_all = over })
 found_so config wanted packets segments number connection made verdict (searches.NoOrder u instead) taken is answered other sought over =
     let connections = numbered (reverse segments) in
     let same = same_answer number (length packets) connections is.connection connection is.chosen answered in
@@ -57,6 +57,7 @@ pub instead_so : (config : Config) (wanted : Import) (packets : List Recorded) (
     → IsInsteadOver report config wanted.within (framings_of wanted.selection.session) connection made verdict found
     → IsInstead config wanted packets segments report number made verdict found
 instead_so config wanted packets segments report number connection made verdict Nothing answered over = tt
+instead_so config wanted packets segments report number connection made verdict TooMany answered over = tt
 instead_so config wanted packets segments report number connection made verdict (ByNone u instead) answered over =
     record { connection = connection; chosen = answered; are = over }
 instead_so config wanted packets segments report number connection made verdict (ByAnother ends) answered over = tt

@@ -20,7 +20,7 @@ use Rattle.bgp_recording_tool.specs.declared.remark.Remark.{Remark}
 use Rattle.bgp_recording_tool.specs.Judging.{Puts}
 use Rattle.bgp_recording_tool.specs.Remarks.{AddsTold, IsHelp, notes_of}
 use Rattle.bgp_explain.specs.declared.report.Report.{Report}
-use Rattle.bgp_recording_tool.specs.Found.{Found, Nothing, ByNone, ByAnother, ByAll}
+use Rattle.bgp_recording_tool.specs.Found.{Found, Nothing, TooMany, ByNone, ByAnother, ByAll}
 use Rattle.bgp_recording_tool.specs.Told.{Refused, refused_status, told_text, told_with}
 use Rattle.bgp_recording_tool.proofs.Judgings.{is_made}
 use Rattle.bgp_recording_tool.specs.Connections.{IsReported, IsTold, IsToldAs}
@@ -32,7 +32,8 @@ module _ {X T : Type 0} {sink : sinks.Ghosts T} (config : Config) (report : Repo
   reported_so : (verdict : VerdictValue) (found : Found) (more : List ℕ) (remarks : List Remark)
       → IsReported config report wanted packets segments number named verdict found more remarks
       → IsTold config report wanted packets segments number named (told_with verdict found more) remarks
-  reported_so verdict Nothing more remarks reported = reported
+  reported_so verdict Nothing more remarks reported = inl reported
+  reported_so verdict TooMany more remarks reported = inr reported
   reported_so verdict (ByNone u instead) more remarks reported = (verdict, instead, reported)
   reported_so verdict (ByAnother ends) more remarks reported = (verdict, reported)
   reported_so verdict ByAll more remarks reported = (verdict, reported)

@@ -29,7 +29,7 @@ use Rattle.bgp_import.specs.Refusals.{refusal_number, refusal_packet}
 use Rattle.bgp_import.specs.declared.refusal.Refusal.{Refusal}
 use Rattle.bgp_recording_tool.specs.Headline.{IsFirstRefresh, ImportAndJudgeAgree, JudgeTellsTheCapture}
 use Rattle.bgp_recording_tool.specs.Connections.{IsJudged}
-use Rattle.bgp_recording_tool.specs.Found.{Found, Nothing, ByNone, ByAnother, ByAll}
+use Rattle.bgp_recording_tool.specs.Found.{Found, Nothing, TooMany, ByNone, ByAnother, ByAll}
 use Rattle.bgp_recording_tool.specs.Told.{Judged, NoOrder, InAnotherOrder, Refused, UnfinishedOverAll}
 use Rattle.bgp_recording_tool.specs.declared.remark.Remark.{Remark}
 use Rattle.bgp_recording_tool.proofs.Answered.{not_unchosen}
@@ -98,8 +98,10 @@ module _ (agree : ImportAndJudgeAgree) (config : Config) (imports judges : Impor
       (records_of judged.entries, agrees.reads (λ refuses. judged.without (subst (λ (s : Session). s.refresh ≡ refreshes.Refused) (sym session) refuses)), judged.is)
 
 pub tells_as : ImportAndJudgeAgree → JudgeTellsTheCapture
-tells_as agree config report imports judges number packets segments connection entries notes octets named (Judged verdict more) remarks can session mean taken also answered made capture told =
+tells_as agree config report imports judges number packets segments connection entries notes octets named (Judged verdict more) remarks can session mean taken also answered made capture (inl told) =
     reads_so agree config imports judges number named packets segments connection entries notes octets can session mean taken also answered made capture verdict Nothing remarks told.judged
+tells_as agree config report imports judges number packets segments connection entries notes octets named (Judged verdict more) remarks can session mean taken also answered made capture (inr told) =
+    reads_so agree config imports judges number named packets segments connection entries notes octets can session mean taken also answered made capture verdict TooMany remarks told.judged
 tells_as agree config report imports judges number packets segments connection entries notes octets named (NoOrder u more) remarks can session mean taken also answered made capture (verdict, instead, told) =
     let (records, spells, is) = reads_so agree config imports judges number named packets segments connection entries notes octets can session mean taken also answered made capture
     verdict (ByNone u instead) remarks told.judged in

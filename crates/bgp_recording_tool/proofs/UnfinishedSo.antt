@@ -14,7 +14,7 @@ use Rattle.bgp_import.specs.Refusals.{refusal_line}
 use Rattle.bgp_import.specs.declared.importing.Import.{Import}
 use Rattle.bgp_import.specs.declared.refusal.Refusal.{Refusal}
 use Rattle.bgp_recording_tool.specs.Connections.{IsOverAll, IsTold}
-use Rattle.bgp_recording_tool.specs.Found.{Nothing}
+use Rattle.bgp_recording_tool.specs.Found.{TooMany}
 use Rattle.bgp_recording_tool.specs.Headline.{IsAsMade, IsUnfinishedByEach, UnfinishedIsSo}
 use Rattle.bgp_recording_tool.specs.Told.{Told, Judged, NoOrder, InAnotherOrder, Refused, UnfinishedOverAll, no_order_line, told_status, told_text}
 use Rattle.bgp_recording_tool.specs.declared.remark.Remark.{Remark}
@@ -62,12 +62,12 @@ module _ (config : Config) (report : Report) (wanted : Import) (packets : List R
       → (status ≡ 2) × (IsAsMade config wanted packets segments number Unfinished ⊎ IsUnfinishedByEach config wanted packets segments number)
   by_told text status remarks rest (Judged (Yes ends) more) is prints tells begins = absurd (not_yes (flat_map end_text ends ++ more) rest (sym prints ∙ begins))
   by_told text status remarks rest (Judged (No count) more) is prints tells begins = absurd (not_record count more rest (sym prints ∙ begins))
-  by_told text status remarks rest (Judged Unfinished more) is prints tells begins =
+  by_told text status remarks rest (Judged Unfinished more) (inl is) prints tells begins =
+      (tells, inr (by_each (unfinished_nothing config wanted packets segments number is.judged.is_found)))
+  by_told text status remarks rest (Judged Unfinished more) (inr is) prints tells begins =
       let judged = is.judged in
-      elim (unfinished_nothing config wanted packets segments number judged.is_found) [
-        | inl many ↦ (tells, inl (record { entries = judged.entries; made = made_verdict config wanted packets segments number named Unfinished Nothing remarks judged; many = many }))
-        | inr found ↦ (tells, inr (by_each found))
-      ]
+      let made = made_verdict config wanted packets segments number named Unfinished TooMany remarks judged in
+      (tells, inl (record { entries = judged.entries; made = made; many = judged.is_found.1 }))
   by_told text status remarks rest (Refused refusal) is prints tells begins = absurd (not_refusal refusal rest (sym prints ∙ begins))
   by_told text status remarks rest (InAnotherOrder ends more) is prints tells begins = absurd (not_yes (flat_map end_text ends ++ more) rest (sym prints ∙ begins))
   by_told text status remarks rest (NoOrder u more) is prints tells begins = absurd (not_packet u.packet more rest (sym prints ∙ begins))

@@ -43,8 +43,8 @@ use Rattle.bgp_explain.specs.declared.report.Report.{Report}
 use Rattle.bgp_explain.specs.declared.report.Report.TheVariants.{VerdictAlone, WithReason}
 use Rattle.bgp_recording_tool.specs.declared.remark.Remark.{Remark}
 use Rattle.bgp_recording_tool.specs.Remarks.{AreRemarks, IsHelp}
-use Rattle.bgp_recording_tool.specs.Found.{Found, Nothing, ByNone, ByAnother, ByAll, IsNo, IsNoYes}
-use Rattle.bgp_recording_tool.specs.Found.{IsYes}
+use Rattle.bgp_recording_tool.specs.Found.{Found, Nothing, TooMany, ByNone, ByAnother, ByAll}
+use Rattle.bgp_recording_tool.specs.Found.{IsNo, IsNoYes, IsYes}
 use Rattle.bgp_recording_tool.specs.Told.{Told, Judged, NoOrder, InAnotherOrder, Refused}
 use Rattle.bgp_recording_tool.specs.Told.{UnfinishedOverAll, status_over, told_status, told_text}
 
@@ -76,20 +76,15 @@ pub record IsYesOver (config : Config) (within : ℕ) (framings : Framings)
   pub of : AreOfAWayOver framings within connection entries received sent
   pub is : HasVerdict config (records_of entries) (Yes ends)
 
--- All orders of the connection's messages that the packets allow say nothing that is told in place
--- of this verdict, which is no yes: it isn't known what they say, for too many nodes; or the
--- verdict is unfinished, and so it is over all of them.
-abbrev pub IsNothingOver : Config → ℕ → Framings → Connection → VerdictValue → Type 0
-IsNothingOver config within framings connection verdict =
-    IsOverOrders config within framings connection over.TooMany
-    ⊎ ((verdict ≡ Unfinished) × IsOverOrders config within framings connection over.Unfinished)
-
--- This is found over all orders of the connection's messages that the packets allow. If another
--- order is a yes, these are its entries.
+-- This is found over all orders of the connection's messages that the packets allow, where this
+-- verdict is no yes. Nothing is told in its place if it is unfinished, and so it is over all of
+-- them. If another order is a yes, these are its entries.
 abbrev pub IsFoundOver : Config → ℕ → Framings → Connection → VerdictValue → List Entry → Found
     → Type 0
 IsFoundOver config within framings connection verdict others Nothing =
-    IsNothingOver config within framings connection verdict
+    (verdict ≡ Unfinished) × IsOverOrders config within framings connection over.Unfinished
+IsFoundOver config within framings connection verdict others TooMany =
+    IsOverOrders config within framings connection over.TooMany
 IsFoundOver config within framings connection verdict others (ByNone u instead) =
     IsOverOrders config within framings connection (over.No u)
 IsFoundOver config within framings connection verdict others (ByAnother ends) =
@@ -146,12 +141,10 @@ module _ (config : Config) (wanted : Import) (packets : List Recorded) (segments
           entries ends
 
     -- Nothing is found that is told in place of this verdict on the made records: it is a yes; or
-    -- it isn't known what all orders say, for too many nodes; or it is unfinished, and so it is
-    -- over all orders.
+    -- it is unfinished, and so it is over all orders.
     abbrev pub IsNothing : Option ℕ → VerdictValue → Type 0
     IsNothing number verdict =
-        IsYes verdict ⊎ IsOverAll number over.TooMany
-        ⊎ ((verdict ≡ Unfinished) × IsOverAll number over.Unfinished)
+        IsYes verdict ⊎ ((verdict ≡ Unfinished) × IsOverAll number over.Unfinished)
 
     -- This is what the reason of that connection's no says of other orders, where no order explains
     -- the sent message behind so many. These are its made entries.
@@ -172,6 +165,7 @@ module _ (config : Config) (wanted : Import) (packets : List Recorded) (segments
     -- a yes, these are its entries.
     abbrev pub IsFound : Option ℕ → VerdictValue → List Entry → Found → Type 0
     IsFound number verdict others Nothing = IsNothing number verdict
+    IsFound number verdict others TooMany = IsNoYes verdict × IsOverAll number over.TooMany
     IsFound number verdict others (ByNone u instead) = IsNo verdict × IsOverAll number (over.No u)
     IsFound number verdict others (ByAnother ends) =
         IsNoYes verdict × IsYesOfAnother number others ends
@@ -247,6 +241,8 @@ abbrev pub IsMoreOf : Report → Config → List Entry → List Entry → Verdic
     → Type 0
 IsMoreOf report config made others verdict Nothing more =
     IsMore report config made Unasked verdict more
+IsMoreOf report config made others verdict TooMany more =
+    IsMore report config made Unasked verdict more
 IsMoreOf report config made others verdict (ByNone u instead) more =
     IsMore report config made instead verdict more
 IsMoreOf report config made others verdict (ByAnother ends) more =
@@ -270,6 +266,7 @@ module _ (config : Config) (report : Report) (wanted : Import) (packets : List R
   abbrev pub IsTold : Option ℕ → Option ℕ → Told → List Remark → Type 0
   IsTold number named (Judged verdict more) remarks =
       IsReported number named verdict Nothing more remarks
+      ⊎ IsReported number named verdict TooMany more remarks
   IsTold number named (NoOrder u more) remarks =
       (verdict : VerdictValue) × (instead : OtherOrders)
       × IsReported number named verdict (ByNone u instead) more remarks

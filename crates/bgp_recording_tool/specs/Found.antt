@@ -12,8 +12,10 @@ use Rattle.bgp_recording_tool.specs.declared.orders.Searched.{Searched}
 use Rattle.bgp_recording_tool.specs.declared.orders.Searched.TheVariants as searches
 
 pub data Found : Type 0 where
-  -- nothing that is told
+  -- nothing that is told: that verdict is the one over all orders
   Nothing : Found
+  -- it isn't known what all orders say, for too many nodes: that verdict is told, which is no yes
+  TooMany : Found
   -- that verdict is a no, and no order explains this sent message; and what its reason says of
   -- other orders
   ByNone : Unexplained → OtherOrders → Found
@@ -46,6 +48,7 @@ IsYes verdict = verdict ≡ Yes (ends_of verdict)
 
 abbrev pub found_of : {X : Type 0} → Searched X → Found
 found_of searches.Nothing = Nothing
+found_of searches.TooMany = TooMany
 found_of (searches.NoOrder u instead) = ByNone u instead
 found_of (searches.Another another) =
     ByAnother (ends_of (verdict_value another.explained.verdict))
@@ -54,6 +57,7 @@ found_of searches.Unfinished = ByAll
 -- the entries of the other order, if one is a yes
 abbrev pub entries_of : {X : Type 0} → Searched X → List Entry
 entries_of searches.Nothing = []
+entries_of searches.TooMany = []
 entries_of (searches.NoOrder u instead) = []
 entries_of (searches.Another another) = another.recording.entries.items
 entries_of searches.Unfinished = []
@@ -62,6 +66,7 @@ entries_of searches.Unfinished = []
 -- verdict on its records is kept, with its reason, and is a yes.
 abbrev pub IsSought : {X : Type 0} → Config → VerdictValue → Searched X → Type 0
 IsSought config verdict searches.Nothing = Unit {0}
+IsSought config verdict searches.TooMany = Unit {0}
 IsSought config verdict (searches.NoOrder u instead) = Unit {0}
 IsSought config verdict (searches.Another another) =
     AreExplained config (records_of another.recording.entries.items) another.explained

@@ -28,7 +28,7 @@ use Rattle.bgp_reason.specs.Possible.{ArePossible}
 use Rattle.bgp_why.specs.declared.other_orders.OtherOrders.TheVariants.{Known}
 use Rattle.bgp_recording_tool.specs.declared.remark.Remark.{Remark}
 use Rattle.bgp_recording_tool.specs.Connections.{IsJudged, IsReported}
-use Rattle.bgp_recording_tool.specs.Found.{Found, Nothing, ByNone, ByAnother, ByAll}
+use Rattle.bgp_recording_tool.specs.Found.{Found, Nothing, TooMany, ByNone, ByAnother, ByAll}
 use Rattle.bgp_explain.specs.Laws.{CouldStand}
 use Rattle.bgp_explain.specs.Text.{no_memory_line}
 use Rattle.bgp_explain.specs.declared.report.Report.TheVariants.{WithReason}
@@ -90,6 +90,7 @@ RecordingsAreExplainedAsJudged =
 -- these are the entries of one order, if what is found is the yes of another than the made one
 abbrev pub AreOfOneOrder : Found → List Entry → List Entry → Type 0
 AreOfOneOrder Nothing entries others = Unit {0}
+AreOfOneOrder TooMany entries others = Unit {0}
 AreOfOneOrder (ByNone u instead) entries others = Unit {0}
 AreOfOneOrder (ByAnother ends) entries others = entries ≡ others
 AreOfOneOrder ByAll entries others = Unit {0}

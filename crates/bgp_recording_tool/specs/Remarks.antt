@@ -18,7 +18,7 @@ use Rattle.bgp_import.specs.declared.note.Note.{Note}
 use Rattle.bgp_import.specs.declared.note.Notes.{Notes}
 use Rattle.bgp_open.specs.declared.route_offer.RouteOffer.{RouteOffer}
 use Rattle.bgp_explain.specs.declared.left_out.LeftOut.{LeftOut}
-use Rattle.bgp_recording_tool.specs.Found.{Found, Nothing, ByNone, ByAnother, ByAll}
+use Rattle.bgp_recording_tool.specs.Found.{Found, Nothing, TooMany, ByNone, ByAnother, ByAll}
 use Rattle.bgp_recording_tool.specs.declared.remark.Remark.{Remark}
 use Rattle.bgp_recording_tool.specs.declared.remark.RemarkKind.{RemarkKind}
 use Rattle.bgp_recording_tool.specs.declared.remark.RemarkKind.TheVariants as kinds
@@ -75,32 +75,42 @@ abbrev pub unsent_remark : Option ℕ → List Entry → Option Remark
 unsent_remark connection entries =
     if has_sent entries then None else Some (remark_on connection kinds.NothingSent)
 
--- Of a yes, that nothing was sent, where that is so; of a no, how many records come before the
--- first impossible one, the packet that shows that, and how long a message may have waited.
-abbrev pub made_order_remark : Option ℕ → ℕ → List Entry → VerdictValue → Option Remark
-made_order_remark connection within entries (Yes ends) = unsent_remark connection entries
-made_order_remark connection within entries (No count) =
-    Some (remark_on connection (kinds.No count (packet_after entries count) within))
-made_order_remark connection within entries Unfinished = None
+-- of a yes, that nothing was sent, where that is so
+abbrev pub yes_remark : Option ℕ → List Entry → VerdictValue → Option Remark
+yes_remark connection entries (Yes ends) = unsent_remark connection entries
+yes_remark connection entries (No count) = None
+yes_remark connection entries Unfinished = None
 
--- If a sent message is known that no order explains, it is told in place of the record of a no: how
--- many come before it, its packet, and how long a message may have waited. If another order is a
--- yes, that nothing was sent is told as of each yes. Of what is unfinished nothing is.
+-- That the verdict is about one order, and how long a message may have waited in it. Of a no, how
+-- many records come before the first impossible one, and the packet that shows that, too.
+abbrev pub one_order_remark : Option ℕ → ℕ → List Entry → VerdictValue → Option Remark
+one_order_remark connection within entries (Yes ends) = unsent_remark connection entries
+one_order_remark connection within entries (No count) =
+    Some (remark_on connection (kinds.No count (packet_after entries count) within))
+one_order_remark connection within entries Unfinished =
+    Some (remark_on connection (kinds.OneOrder within))
+
+-- If there are too many orders, it is said that the verdict is about one. If a sent message is
+-- known that no order explains, it is told: how many come before it, its packet, and how long a
+-- message may have waited. Of each yes it is told that nothing was sent, where that is so.
 abbrev pub verdict_remark : Option ℕ → ℕ → List Entry → VerdictValue → Found → Option Remark
-verdict_remark connection within entries verdict Nothing =
-    made_order_remark connection within entries verdict
+verdict_remark connection within entries verdict Nothing = yes_remark connection entries verdict
+verdict_remark connection within entries verdict TooMany =
+    one_order_remark connection within entries verdict
 verdict_remark connection within entries verdict (ByNone u instead) =
     Some (remark_on connection (kinds.NoOrder u.before u.packet within))
 verdict_remark connection within entries verdict (ByAnother ends) =
     unsent_remark connection entries
 verdict_remark connection within entries verdict ByAll = None
 
--- that the yes is that of another order, if it is
-abbrev pub another_remark : Option ℕ → Found → Option Remark
-another_remark connection Nothing = None
-another_remark connection (ByNone u instead) = None
-another_remark connection (ByAnother ends) = Some (remark_on connection kinds.AnotherOrder)
-another_remark connection ByAll = None
+-- what the made order is, if what is answered isn't its verdict: no yes, beside the yes of another;
+-- or a no, beside what is unfinished over all
+abbrev pub made_order_remark : Option ℕ → Found → Option Remark
+made_order_remark connection Nothing = None
+made_order_remark connection TooMany = None
+made_order_remark connection (ByNone u instead) = None
+made_order_remark connection (ByAnother ends) = Some (remark_on connection kinds.AnotherOrder)
+made_order_remark connection ByAll = Some (remark_on connection kinds.AllOrders)
 
 -- All that is told of a connection of which these entries are made: with this patience, with an
 -- UPDATE of a confederation or without, and where this is left out of what both OPENs offer.
@@ -108,7 +118,7 @@ abbrev pub remarks_on : Option ℕ → ℕ → List Entry → Notes → Bool →
     → List Remark
 remarks_on connection within entries notes confederation left_out verdict found =
     some_of (making_remarks connection notes ++ confederation_remark connection confederation
-    ∷ without_remark connection left_out.without ∷ another_remark connection found
+    ∷ without_remark connection left_out.without ∷ made_order_remark connection found
     ∷ verdict_remark connection within entries verdict found ∷ [])
 
 -- that is told, or nothing where there was no memory for it

@@ -10,7 +10,7 @@ use Rattle.bgp_import.specs.declared.refusal.Cause.{Cause}
 use Rattle.bgp_import.specs.declared.refusal.Cause.TheVariants as causes
 use Rattle.bgp_import.specs.declared.refusal.Refusal.{Refusal}
 use Rattle.bgp_orders.specs.declared.connection.Unexplained.{Unexplained}
-use Rattle.bgp_recording_tool.specs.Found.{Found, Nothing, ByNone, ByAnother, ByAll}
+use Rattle.bgp_recording_tool.specs.Found.{Found, Nothing, TooMany, ByNone, ByAnother, ByAll}
 
 pub data Told : Type 0 where
   -- the verdict on the records that are made of it, and what stands after it
@@ -35,6 +35,7 @@ told_of verdict (Some u) more = NoOrder u more
 -- what is told of a verdict on the made order, and of what is found over all orders
 abbrev pub told_with : VerdictValue → Found → List ℕ → Told
 told_with verdict Nothing more = told_of verdict None more
+told_with verdict TooMany more = told_of verdict None more
 told_with verdict (ByNone u instead) more = told_of verdict (Some u) more
 told_with verdict (ByAnother ends) more = InAnotherOrder ends more
 told_with verdict ByAll more = UnfinishedOverAll more

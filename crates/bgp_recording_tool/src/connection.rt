@@ -239,7 +239,7 @@ fn put_searched<A: Allocator + Copy, W: Sink>(
         (told_with (verdict_value explained.now.verdict) (found_of searched.now) more)) }
 {
     match searched {
-        Searched::Nothing => {
+        Searched::Nothing | Searched::TooMany => {
             let instead = OtherOrders::Unasked;
             put_report(
                 lines, alloc, config, report, entries, explained, None, instead,

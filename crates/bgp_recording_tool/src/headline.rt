@@ -46,8 +46,8 @@ use std::alloc::Allocator;
 /// * 1: `no at packet P`: no order explains the sent message that this packet shows; a remark has
 ///   its number among those sent. Or `no at record N` of the made records; a remark has the packet
 ///   that shows the record.
-/// * 2: `unfinished`: the recording stops within what the local system had to do, in the made order
-///   or over all.
+/// * 2: `unfinished`: the recording stops within what the local system had to do, over all orders;
+///   a remark says if the made one is a no. Or in the made one, and a remark says so.
 /// * 3: the recording is refused.
 /// * 4: memory was refused.
 /// * 5: a device failed.

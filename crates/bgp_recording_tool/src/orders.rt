@@ -41,8 +41,10 @@ pub(crate) struct AnotherOrder<'a, A: Allocator> {
 /// What the search of all orders finds that is reported in place of the verdict on the made one.
 #[derive(Drop)]
 pub(crate) enum Searched<'a, A: Allocator> {
-    /// Nothing: that verdict is reported.
+    /// Nothing: that verdict is reported, and is the one over all orders.
     Nothing,
+    /// There are too many orders: that verdict is reported, which is no yes.
+    TooMany,
     /// No order explains this sent message; and what its reason says of other orders.
     NoOrder(Unexplained, OtherOrders),
     /// Another order is a yes.
@@ -139,9 +141,8 @@ fn instead_of<A: Allocator + Copy>(
 }
 
 /// Returns what is found over all orders of the connection's messages, if this is the verdict on
-/// the records of the made entries, and no yes. It is nothing only if it isn't known, for too many
-/// nodes, or if it is unfinished over all orders, as this verdict is. Returns `AllocError` if memory
-/// is refused.
+/// the records of the made entries, and no yes. It is nothing only if it is unfinished over all
+/// orders, as this verdict is. Returns `AllocError` if memory is refused.
 fn search_connection<'a, A: Allocator + Copy, T: Tracker<A>>(
     alloc: A,
     config: &Config,
@@ -168,7 +169,7 @@ fn search_connection<'a, A: Allocator + Copy, T: Tracker<A>>(
         OverOrders::Yes => {
             match another_yes::<A, T>(alloc, config, connection, framings, within)? {
                 Some(another) => Ok(Searched::Another(another)),
-                None => Ok(Searched::Nothing),
+                None => Ok(Searched::TooMany),
             }
         }
         OverOrders::No(unexplained) => {
@@ -184,7 +185,7 @@ fn search_connection<'a, A: Allocator + Copy, T: Tracker<A>>(
             }
             Ok(Searched::Unfinished)
         }
-        OverOrders::TooMany => Ok(Searched::Nothing),
+        OverOrders::TooMany => Ok(Searched::TooMany),
     }
 }
 

@@ -41,6 +41,11 @@ pub enum RemarkKind {
         /// How many seconds after it came a received message is handled at the latest.
         within: u16,
     },
+    /// A connection is answered unfinished, in one order of its messages that the packets allow.
+    OneOrder {
+        /// How many seconds after it came a received message is handled at the latest.
+        within: u16,
+    },
     /// A connection is answered no, over all orders of its messages that the packets allow.
     NoOrder {
         /// How many sent messages come before the first that none explains.
@@ -53,6 +58,9 @@ pub enum RemarkKind {
     /// A connection is answered yes, and the order that is made isn't one: another order of its
     /// messages that the packets allow is.
     AnotherOrder,
+    /// A connection is answered unfinished, over all orders of its messages that the packets allow,
+    /// and the order that is made is a no.
+    AllOrders,
     /// The recording or a connection is refused: what helps.
     Refused(Help),
     /// The session's addresses are of two families, between which no packet goes.
@@ -89,6 +97,11 @@ impl fmt::Display for RemarkKind {
                  messages that these packets allow if each is handled within {within} s (--within)",
                 u128::from(before) + 1
             ),
+            RemarkKind::OneOrder { within } => write!(
+                f,
+                "unfinished: this is about one order of the messages that these packets allow if \
+                 each is handled within {within} s (--within)"
+            ),
             RemarkKind::NoOrder {
                 before,
                 packet,
@@ -101,6 +114,10 @@ impl fmt::Display for RemarkKind {
             ),
             RemarkKind::AnotherOrder => f.write_str(
                 "the order that bgp import makes isn't a yes: another that these packets allow is",
+            ),
+            RemarkKind::AllOrders => f.write_str(
+                "the order that bgp import makes is a no: over all that these packets allow it is \
+                 unfinished",
             ),
             RemarkKind::Refused(help) => write!(f, "{help}"),
             RemarkKind::TwoFamilies => f.write_str(

@@ -8,7 +8,7 @@ ghost use Rattle.bgp_recording_tool.specs.Remarks.{confederation_remark, has_sen
 ghost use Rattle.bgp_recording_tool.specs.Found.{found_of};
 ghost use Rattle.bgp_recording_tool.specs.Remarks.{AddsTold, AreRemarks, remarks_on};
 ghost use Rattle.bgp_recording_tool.specs.Remarks.{without_remark};
-ghost use Rattle.bgp_recording_tool.specs.Remarks.{another_remark, packet_after};
+ghost use Rattle.bgp_recording_tool.specs.Remarks.{one_order_remark, packet_after, yes_remark};
 ghost use Rattle.bgp_recording_tool.specs.Remarks.{unsent_remark};
 ghost use Rattle.bgp_tool.specs.Seen.{is_sent};
 ghost use Rattle.mrt.specs.Reader.{shown_of};
@@ -122,31 +122,50 @@ fn unsent_remark(connection: Option<usize>, entries: &[Entry<'_>]) -> Option<Rem
     })
 }
 
-/// The remark on a verdict on the made order: on a yes, that nothing was sent, if that is so; on a
-/// no, at which record and packet it is, and how long a message may have waited.
-fn made_order_remark<A: Allocator>(
+/// Returns the remark on a yes that nothing was sent, if that is so.
+fn yes_remark<A: Allocator>(
+    connection: Option<usize>,
+    entries: &[Entry<'_>],
+    verdict: &Verdict<A>,
+) -> Option<Remark>
+    ensures { result ≡ yes_remark connection entries.now (verdict_value verdict.now) }
+{
+    match verdict {
+        Verdict::Yes(_) => unsent_remark(connection, entries),
+        Verdict::No(_) | Verdict::Unfinished => None,
+    }
+}
+
+/// Returns the remark that a verdict is about one order, and how long a message may have waited in
+/// it; on a no, at which record and packet it is, too.
+fn one_order_remark<A: Allocator>(
     connection: Option<usize>,
     within: u16,
     entries: &[Entry<'_>],
     verdict: &Verdict<A>,
 ) -> Option<Remark>
     ensures { result
-        ≡ made_order_remark connection within entries.now (verdict_value verdict.now) }
+        ≡ one_order_remark connection within entries.now (verdict_value verdict.now) }
 {
-    let kind = match verdict {
-        Verdict::Yes(_) => return unsent_remark(connection, entries),
-        Verdict::No(count) => RemarkKind::No {
-            before: *count,
-            packet: packet_after(entries, *count),
-            within,
-        },
-        Verdict::Unfinished => return None,
-    };
-    Some(Remark { connection, kind })
+    match verdict {
+        Verdict::Yes(_) => unsent_remark(connection, entries),
+        Verdict::No(count) => Some(Remark {
+            connection,
+            kind: RemarkKind::No {
+                before: *count,
+                packet: packet_after(entries, *count),
+                within,
+            },
+        }),
+        Verdict::Unfinished => Some(Remark {
+            connection,
+            kind: RemarkKind::OneOrder { within },
+        }),
+    }
 }
 
 /// Returns what there is to tell of a verdict, or of the sent message that no order explains, if
-/// there is one; of the yes of another order, that nothing was sent, where that is so.
+/// there is one; of each yes, that nothing was sent, where that is so.
 fn verdict_remark<A: Allocator>(
     connection: Option<usize>,
     within: u16,
@@ -158,7 +177,8 @@ fn verdict_remark<A: Allocator>(
         (found_of searched.now) }
 {
     match searched {
-        Searched::Nothing => made_order_remark(connection, within, entries, verdict),
+        Searched::Nothing => yes_remark(connection, entries, verdict),
+        Searched::TooMany => one_order_remark(connection, within, entries, verdict),
         Searched::NoOrder(unexplained, _) => Some(Remark {
             connection,
             kind: RemarkKind::NoOrder {
@@ -172,27 +192,33 @@ fn verdict_remark<A: Allocator>(
     }
 }
 
-/// That the yes is that of another order than the made one, if it is.
-fn another_remark<A: Allocator>(
+/// Returns what the made order is, if what is answered isn't its verdict: no yes, beside the yes of
+/// another; or a no, beside what is unfinished over all.
+fn made_order_remark<A: Allocator>(
     connection: Option<usize>,
     searched: &Searched<'_, A>,
 ) -> Option<Remark>
-    ensures { result ≡ another_remark connection (found_of searched.now) }
+    ensures { result ≡ made_order_remark connection (found_of searched.now) }
 {
     match searched {
-        Searched::Nothing | Searched::NoOrder(..) | Searched::Unfinished => None,
+        Searched::Nothing | Searched::TooMany | Searched::NoOrder(..) => None,
         Searched::Another(_) => Some(Remark {
             connection,
             kind: RemarkKind::AnotherOrder,
+        }),
+        Searched::Unfinished => Some(Remark {
+            connection,
+            kind: RemarkKind::AllOrders,
         }),
     }
 }
 
 /// Adds the remarks on a connection: how its records were made; whether they show an UPDATE of a
-/// confederation, and what is left out of what both OPENs offer, as the caller found; on a no, the
-/// sent message that no order explains, or at which record and packet it is; on a yes, that another
-/// order is one, if that is so, and that nothing was sent. Each has this number, if there are
-/// several connections. None is added if a growth is refused.
+/// confederation, and what is left out of what both OPENs offer, as the caller found; what the made
+/// order is, if what is answered isn't its verdict; on a no, the sent message that no order
+/// explains; on a yes, that nothing was sent; if there are too many orders, that the verdict is
+/// about one. Each has this number, if there are several connections. None is added if a growth is
+/// refused.
 fn try_to_add<A: Allocator + Copy>(
     remarks: &mut Vec<Remark, A>,
     named: Option<usize>,
@@ -217,7 +243,7 @@ fn try_to_add<A: Allocator + Copy>(
     ] = making_remarks(named, made);
     let shown = confederation_remark(named, confederation);
     let without = without_remark(named, left_out.without);
-    let another = another_remark(named, searched);
+    let in_made = made_order_remark(named, searched);
     let judged = verdict_remark(named, within, made.entries.as_slice(), verdict, searched);
     add_remarks(
         remarks,
@@ -229,7 +255,7 @@ fn try_to_add<A: Allocator + Copy>(
             put_off,
             shown,
             without,
-            another,
+            in_made,
             judged,
         ],
     )

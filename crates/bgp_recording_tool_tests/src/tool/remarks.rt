@@ -1,6 +1,6 @@
-//! Remarks that no recording leads to: a record and a sent message whose number is the greatest, a
-//! connection that is refused for its link, and memory. (The others are notes of cases of
-//! `real_recordings`.)
+//! Remarks that no recording here leads to: a record and a sent message whose number is the
+//! greatest, what is unfinished with too many orders to look at, a connection that is refused for
+//! its link, and memory. (The others are notes of cases of `real_recordings`.)
 
 use bgp_import::{Help, Refusal};
 use bgp_recording_tool::{Remark, RemarkKind};
@@ -8,7 +8,7 @@ use segments::PacketFault;
 use std::alloc::Global;
 
 /// What there is to tell, with its sentence.
-static REMARKS: [(Option<usize>, RemarkKind, &str); 4] = [
+static REMARKS: [(Option<usize>, RemarkKind, &str); 5] = [
     (
         Some(2),
         RemarkKind::No {
@@ -29,6 +29,12 @@ static REMARKS: [(Option<usize>, RemarkKind, &str); 4] = [
         },
         "connection 2: no at packet 18446744073709551615: it shows sent message \
          18446744073709551616; no order that these packets allow within 1 s explains it",
+    ),
+    (
+        Some(2),
+        RemarkKind::OneOrder { within: 65535 },
+        "connection 2: unfinished: this is about one order of the messages that these packets \
+         allow if each is handled within 65535 s (--within)",
     ),
     (
         Some(2),

@@ -1,4 +1,4 @@
-use Rattle.std.proofs.Common.{inl, subst}
+use Rattle.std.proofs.Common.{subst}
 use Rattle.bgp_orders.specs.Connections.{IsOverOrders}
 use Rattle.bgp_orders.specs.WholeWays.{NoneIsFoundOver}
 use Rattle.bgp_orders.specs.declared.connection.OverOrders.{OverOrders}
@@ -11,5 +11,5 @@ returns-in-None-clause-found g c = λ clocked.
     let config = c.args.config.now in
     let connection = c.args.connection.now in
     let whole = subst (λ (o : OverOrders). IsOverOrders config c.args.within c.args.framings connection o) c.in-Yes.is (c.in_ok-verdict_over_orders.ensures clocked) in
-    inl (found_or_many config c.args.within c.args.framings connection clocked whole
-    (none_is c.in_ok-another-in-Yes.field-0 (NoneIsFoundOver config c.args.within c.args.framings connection) c.in-None.is c.in_ok-another-in-Yes.ensures.none))
+    found_or_many config c.args.within c.args.framings connection clocked whole
+    (none_is c.in_ok-another-in-Yes.field-0 (NoneIsFoundOver config c.args.within c.args.framings connection) c.in-None.is c.in_ok-another-in-Yes.ensures.none)
