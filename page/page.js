@@ -94,8 +94,8 @@ async function check(ask, file, others) {
   try {
     octets = new Uint8Array(await file.arrayBuffer());
   } catch (error) {
-    const why = "can't be read, is a folder, or is too large for this browser";
-    return say(`${file.name} ${why}: ${error.message}`, true);
+    const why = "it is a folder, has changed since it was given, or is too large for this browser";
+    return say(`${file.name} can't be read: ${why} (${error.message})`, true);
   }
   say(`Checking ${file.name} ..`);
   const answer = await ask({
@@ -134,6 +134,8 @@ function listen(ask) {
     at("again").disabled = false;
     if (at("form").reportValidity()) check(ask, file, files.length > 1);
   };
+  // So that the same file can be chosen again, after it has changed.
+  at("file").onclick = () => { at("file").value = ""; };
   at("file").onchange = () => take(at("file").files);
   at("form").onsubmit = event => {
     event.preventDefault();

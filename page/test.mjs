@@ -205,6 +205,7 @@ async function testPage(wanted) {
     await testSeveral(browser);
     await testDrops(browser, wanted);
     await testAgain(browser);
+    await testChanged(browser, path.join(folder, "changed.pcap"));
     const others = browser.requests.map(it => it.url).filter(it => it !== url && !it.startsWith("blob:"));
     isSo(`the page asked for ${others}`, others.length === 0);
     isSo(`the console says ${browser.said}`, browser.said.length === 0);
@@ -252,6 +253,17 @@ async function testAgain(browser) {
   same("the report with another port", got.report, report.toString());
   same("the notes with another port", got.notes, notes.toString());
   isSo(`the status with another port: ${got.said}`, got.said.includes(`(exit status ${status})`));
+}
+
+// A file that grew after it was chosen, as one does that is still recorded.
+async function testChanged(browser, file) {
+  fs.copyFileSync(files[0], file);
+  await shown(browser, file);
+  fs.appendFileSync(file, Buffer.alloc(1));
+  const got = await soon("to read what has changed", shownAfter(browser, () => browser.value(
+    "document.getElementById('again').click()")));
+  fs.rmSync(file);
+  isSo(`a file has changed: ${got.said}`, got.said.includes("has changed"));
 }
 
 // Whatever stands in the frame, no script of it runs, and it loads nothing: also after a click.
