@@ -122,6 +122,20 @@ export class Browser {
     await this.own("DOM.setFileInputFiles", { nodeId, files });
   }
 
+  // Drops files or folders on an element, as who drags them there does.
+  async drop(selector, files) {
+    const { x, y } = await this.value(`(() => {
+      const element = document.querySelector(${JSON.stringify(selector)});
+      element.scrollIntoView({ block: "center" });
+      const { left, top, width, height } = element.getBoundingClientRect();
+      return { x: left + width / 2, y: Math.max(top, 0) + Math.min(height, innerHeight - top) / 2 };
+    })()`);
+    const data = { items: [], files, dragOperationsMask: 1 };
+    for (const type of ["dragEnter", "dragOver", "drop"]) {
+      await this.own("Input.dispatchDragEvent", { type, x, y, data });
+    }
+  }
+
   async dark(on) {
     const value = on ? "dark" : "light";
     await this.own("Emulation.setEmulatedMedia",

@@ -94,7 +94,8 @@ async function check(ask, file, others) {
   try {
     octets = new Uint8Array(await file.arrayBuffer());
   } catch (error) {
-    return say(`${file.name} can't be read, or is a folder: ${error.message}`, true);
+    const why = "it is a folder, has changed since it was given, or is too large for this browser";
+    return say(`${file.name} can't be read: ${why} (${error.message})`, true);
   }
   say(`Checking ${file.name} ..`);
   const answer = await ask({
@@ -108,34 +109,46 @@ async function check(ask, file, others) {
   show(file.name, answer, others);
 }
 
-// Takes files that are chosen or dropped.
+// Takes what is dropped on a window or a document: if nobody does, a browser opens the file in place
+// of the page.
+function takeDrops(target, take) {
+  const mark = isOver => at("drop").classList.toggle("over", isOver);
+  target.addEventListener("dragover", event => {
+    event.preventDefault();
+    mark(true);
+  });
+  target.addEventListener("dragleave", () => mark(false));
+  target.addEventListener("drop", event => {
+    event.preventDefault();
+    mark(false);
+    take(event.dataTransfer.files);
+  });
+}
+
+// Takes files that are chosen or dropped, also on the report.
 function listen(ask) {
   let file = null;
   const take = files => {
-    if (!files.length) return;
+    if (!files.length || at("file").disabled) return;
     file = files[0];
     at("again").disabled = false;
     if (at("form").reportValidity()) check(ask, file, files.length > 1);
   };
+  // So that the same file can be chosen again, after it has changed.
+  at("file").onclick = () => { at("file").value = ""; };
   at("file").onchange = () => take(at("file").files);
   at("form").onsubmit = event => {
     event.preventDefault();
     if (file) check(ask, file, false);
   };
-  addEventListener("dragover", event => {
-    event.preventDefault();
-    at("drop").classList.add("over");
-  });
-  addEventListener("dragleave", () => at("drop").classList.remove("over"));
-  addEventListener("drop", event => {
-    event.preventDefault();
-    at("drop").classList.remove("over");
-    take(event.dataTransfer.files);
-  });
+  takeDrops(self, take);
   at("report").onload = () => {
     fitted.disconnect();
-    const inner = at("report").contentDocument?.documentElement;
-    if (inner) fitted.observe(inner);
+    const inner = at("report").contentDocument;
+    if (inner) {
+      fitted.observe(inner.documentElement);
+      takeDrops(inner, take);
+    }
     document.body.dataset.shown = Number(document.body.dataset.shown ?? 0) + 1;
   };
   at("print").onclick = () => at("report").contentWindow.print();
@@ -143,13 +156,15 @@ function listen(ask) {
 
 // Says why no file can be checked here, and takes none.
 function refuse(sentence) {
-  at("file").disabled = true;
+  at("file").disabled = at("again").disabled = true;
   say(`${sentence} ${INSTEAD}`, true);
 }
 
 const lacks = lacking();
-if (lacks) refuse(lacks);
-else {
+if (lacks) {
+  takeDrops(self, () => {});
+  refuse(lacks);
+} else {
   const engine = startEngine();
   engine.catch(error => refuse(`The module can't be started: ${error.message}.`));
   listen(async asked => (await engine)(asked));

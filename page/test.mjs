@@ -36,8 +36,8 @@ function soon(what, promise) {
 }
 
 // What the program says of a file, which it is given by its name alone.
-function native(file) {
-  const words = ["check", "--html", "--", path.basename(file)];
+function native(file, ...options) {
+  const words = ["check", "--html", ...options, "--", path.basename(file)];
   const ran = spawnSync(program, words, { cwd: path.dirname(file), maxBuffer: 1 << 30 });
   return { status: ran.status, report: ran.stdout, notes: ran.stderr };
 }
@@ -51,11 +51,27 @@ function compare(file, got, wanted) {
 
 // ---- the module alone, by the worker's script
 
-async function startWorker() {
+// Returns the worker's script, changed so that it hands over little memory at first, and so that it
+// gets no more than at first if `isAll`.
+function withLittle(source, isAll) {
+  const little = source.replace("LEAST = 1 << 24, FOR_EACH = 12", "LEAST = 1 << 12, FOR_EACH = 0");
+  if (little === source) throw new Error("worker.js hands over memory in another way");
+  return !isAll ? little : `
+    const given = WebAssembly.Memory.prototype.grow;
+    let most = 0;
+    WebAssembly.Memory.prototype.grow = function (pages) {
+      most ||= Number(pages);
+      if (Number(pages) > most) throw new RangeError("no more memory");
+      return given.call(this, pages);
+    };
+    ${little}`;
+}
+
+async function startWorker(changed = source => source) {
   let answered;
   const self = { postMessage: data => answered(data) };
   const source = fs.readFileSync(path.join(here, "worker.js"), "utf8");
-  new Function("self", source)(self);
+  new Function("self", changed(source))(self);
   const ask = data => new Promise(done => {
     answered = done;
     self.onmessage({ data });
@@ -75,7 +91,43 @@ async function testModule(wanted) {
   }
   const unnamed = await ask({ file: Buffer.alloc(0), name: Buffer.of(0xff), port: 179, within: 10 });
   isSo("a name that isn't text has status 64", unnamed.status === 64 && unnamed.length === 0);
+  await testOptions(ask);
+  await testMemory(wanted);
   console.log(`the module: ${files.length} files`);
+}
+
+// The file with the longest report: little memory isn't enough for it.
+function longest(wanted) {
+  const lengths = files.map(it => wanted.get(it).report.length);
+  return files[lengths.indexOf(Math.max(...lengths))];
+}
+
+// A port and seconds of the user's.
+const OTHERS = { port: 1179, within: 5 };
+const OTHER_WORDS = ["--port", "1179", "--within", "5"];
+
+async function testOptions(ask) {
+  const name = new TextEncoder().encode(path.basename(files[0]));
+  const got = await ask({ file: fs.readFileSync(files[0]), name, ...OTHERS });
+  compare(files[0], got, native(files[0], ...OTHER_WORDS));
+}
+
+// If too little memory is handed over at first, it is asked again with more; if there is no more,
+// the answer says so.
+async function testMemory(wanted) {
+  const file = longest(wanted);
+  const name = new TextEncoder().encode(path.basename(file));
+  const asked = { file: fs.readFileSync(file), name, port: 179, within: 10 };
+  const whole = await (await startWorker(it => withLittle(it, false)))(asked);
+  compare(file, whole, wanted.get(file));
+  isSo("memory that was enough is said to lack", !whole.lacks);
+  const grow = WebAssembly.Memory.prototype.grow;
+  try {
+    const cut = await (await startWorker(it => withLittle(it, true)))(asked);
+    isSo(`no more memory: ${cut.error ?? "a whole report"}`, cut.lacks === true);
+  } finally {
+    WebAssembly.Memory.prototype.grow = grow;
+  }
 }
 
 // ---- the page in Chromium
@@ -101,8 +153,14 @@ const TAGS = new Set(("html head meta title style body h1 h2 h3 p pre samp detai
   + "thead tbody tr th td div span section b").split(" "));
 
 async function shown(browser, chosen) {
-  await browser.value("self.before = document.body.dataset.shown, null");
-  await browser.choose("#file", [].concat(chosen));
+  return shownAfter(browser, () => browser.choose("#file", [].concat(chosen)));
+}
+
+// The status is emptied first, so that a sentence is one on what is done.
+async function shownAfter(browser, deed) {
+  await browser.value(`self.before = document.body.dataset.shown;
+    document.getElementById("status").className = ""; null`);
+  await deed();
   return browser.value(SHOWN);
 }
 
@@ -145,6 +203,9 @@ async function testPage(wanted) {
       isSo(`a script ran in the report on ${name}`, got.pwned === undefined);
     }
     await testSeveral(browser);
+    await testDrops(browser, wanted);
+    await testAgain(browser);
+    await testChanged(browser, path.join(folder, "changed.pcap"));
     const others = browser.requests.map(it => it.url).filter(it => it !== url && !it.startsWith("blob:"));
     isSo(`the page asked for ${others}`, others.length === 0);
     isSo(`the console says ${browser.said}`, browser.said.length === 0);
@@ -161,6 +222,48 @@ async function testSeveral(browser) {
   await browser.value("document.getElementById('file').multiple = true, null");
   const got = await shown(browser, files.slice(0, 2));
   isSo(`two files: ${got.said}`, got.said.includes("this is the first"));
+}
+
+// A file is dropped on the page, two are, a folder is; and a file on the report.
+async function testDrops(browser, wanted) {
+  const [first, second] = files;
+  const dropped = (what, at, all) => soon(`to show ${what}`, shownAfter(browser, () => browser.drop(at, all)));
+  const one = await dropped("a file that is dropped", "#drop", [first]);
+  same("the report on a file that is dropped", one.report, wanted.get(first).report.toString());
+  const two = await dropped("two that are dropped", "#drop", [second, first]);
+  isSo(`two files are dropped: ${two.said}`, two.said.includes("this is the first"));
+  same("the report on the first of two", two.report, wanted.get(second).report.toString());
+  const folder = await dropped("a folder that is dropped", "#drop", [path.dirname(first)]);
+  isSo(`a folder is dropped: ${folder.said}`, folder.said.includes("is a folder"));
+  isSo("a folder is dropped: the report before stays",
+    await browser.value("document.getElementById('report').hidden"));
+  await shown(browser, second);
+  const over = await dropped("a file that is dropped on the report", "#report", [first]);
+  same("the report on a file that is dropped on one", over.report, wanted.get(first).report.toString());
+}
+
+// The same file with another port and other seconds.
+async function testAgain(browser) {
+  await shown(browser, files[0]);
+  const got = await soon("to check again", shownAfter(browser, () => browser.value(`
+    document.getElementById("port").value = ${OTHERS.port};
+    document.getElementById("within").value = ${OTHERS.within};
+    document.getElementById("again").click()`)));
+  const { status, report, notes } = native(files[0], ...OTHER_WORDS);
+  same("the report with another port", got.report, report.toString());
+  same("the notes with another port", got.notes, notes.toString());
+  isSo(`the status with another port: ${got.said}`, got.said.includes(`(exit status ${status})`));
+}
+
+// A file that grew after it was chosen, as one does that is still recorded.
+async function testChanged(browser, file) {
+  fs.copyFileSync(files[0], file);
+  await shown(browser, file);
+  fs.appendFileSync(file, Buffer.alloc(1));
+  const got = await soon("to read what has changed", shownAfter(browser, () => browser.value(
+    "document.getElementById('again').click()")));
+  fs.rmSync(file);
+  isSo(`a file has changed: ${got.said}`, got.said.includes("has changed"));
 }
 
 // Whatever stands in the frame, no script of it runs, and it loads nothing: also after a click.
@@ -200,11 +303,37 @@ async function testLacking() {
       const said = await browser.value("document.getElementById('status').textContent");
       isSo(`a browser that lacks something: ${said}`, said.includes("bgp check --html FILE"));
       isSo("the chooser is off", await browser.value("document.getElementById('file').disabled"));
+      await browser.drop("#drop", [files[0]]);
+      isSo("a file is taken where none can be checked",
+        await browser.value("document.getElementById('status').textContent") === said);
     } finally {
       await browser.end();
     }
   }
   console.log("the page in a browser that lacks something");
+}
+
+// A browser that gives no more memory than at first, which is little: a sentence.
+async function testLittle(wanted) {
+  const browser = await Browser.start();
+  const source = `
+    const Whole = Blob;
+    self.Blob = class extends Whole {
+      constructor(parts, options) {
+        const isWorker = options?.type === "text/javascript";
+        super(isWorker ? [(${withLittle})(parts[0], true)] : parts, options);
+      }
+    };`;
+  try {
+    await browser.own("Page.addScriptToEvaluateOnNewDocument", { source });
+    await browser.go(pathToFileURL(page).href);
+    const { said } = await soon("to lack memory", shown(browser, longest(wanted)));
+    isSo(`no more memory: ${said}`, /gives (no more|too little) memory/.test(said));
+    isSo(`no more memory, without what helps: ${said}`, said.includes("bgp check --html FILE"));
+  } finally {
+    await browser.end();
+  }
+  console.log("the page in a browser with little memory");
 }
 
 // ---- pictures
@@ -235,6 +364,7 @@ try {
   await testModule(wanted);
   await testPage(wanted);
   await testLacking();
+  await testLittle(wanted);
   await makePictures();
   console.log("ok");
 } catch (error) {
