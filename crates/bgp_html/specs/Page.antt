@@ -74,7 +74,7 @@ style_6 =
     codes ".fro div::after{left:0;border-right:8px solid;border-left:0}\n"
     ++ (codes "tr.no{background:var(--mark);font-weight:700}\n"
     ++ (codes "tr.no td:first-child::before{content:\"\\2717\\a0\"}\n"
-    ++ (codes ".late{opacity:.55}\n"
+    ++ (codes ".late{opacity:.65}\n"
     ++ (codes ".run{color:var(--pale);font-style:italic}.run div{border-style:none}\n"
     ++ (codes ".could{color:var(--ink)}.could div{border:1px dashed;margin:.1rem 2rem}\n"
     ++ codes "@media screen{body{display:flex;flex-direction:column}\n")))))
@@ -89,8 +89,22 @@ style_7 =
     ++ (codes "details::details-content{display:block;content-visibility:visible;\n"
     ++ codes "block-size:auto}}\n")))))
 
+abbrev pub style_8 : List ℕ
+style_8 =
+    codes ".to div::before{content:\"\\2192\\a0\"}\n"
+    ++ (codes ".fro div::before{content:\"\\2190\\a0\"}\n"
+    ++ (codes "@media screen and (max-width:40rem){table,caption,thead,tbody{display:block}\n"
+    ++ (codes "tr{display:grid;grid-template-columns:1fr auto auto}\n"
+    ++ (codes "th:nth-child(n+4),.could td:nth-child(-n+3){display:none}\n"
+    ++ (codes "td:nth-child(n+4){grid-column:1/-1;width:auto;border:0;text-align:left}\n"
+    ++ (codes "td:nth-child(n+4):empty{display:none}\n"
+    ++ (codes "td:nth-child(6){text-align:right}\n"
+    ++ (codes "td:first-child{text-align:left;white-space:nowrap}\n"
+    ++ codes "div{min-width:0}}\n"))))))))
+
 abbrev pub style_text : List ℕ
-style_text = style_1 ++ (style_2 ++ (style_3 ++ (style_4 ++ (style_5 ++ (style_6 ++ (style_7))))))
+style_text =
+    style_1 ++ (style_2 ++ (style_3 ++ (style_4 ++ (style_5 ++ (style_6 ++ (style_7 ++ (style_8)))))))
 
 abbrev pub after_title : List ℕ
 after_title = codes ": bgp check</title>\n<style>\n" ++ (style_text ++ codes "</style>\n<h1>")

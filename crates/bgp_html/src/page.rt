@@ -4,7 +4,7 @@ ghost use Rattle.bgp_text.specs.Lines.{Writes};
 ghost use Rattle.bgp_html.specs.Page.{about_text, after_name, after_title, ladders_start};
 ghost use Rattle.bgp_html.specs.Page.{ladders_text, page_start, words_text};
 ghost use Rattle.bgp_html.specs.Page.{style_1, style_2, style_3, style_4};
-ghost use Rattle.bgp_html.specs.Page.{style_5, style_6, style_7, style_text};
+ghost use Rattle.bgp_html.specs.Page.{style_5, style_6, style_7, style_8, style_text};
 
 use bgp_text::Lines;
 use mrt::Sink;
@@ -99,7 +99,7 @@ fn put_style_6<W: Sink>(lines: &mut Lines<'_, W>)
     lines.put(b".fro div::after{left:0;border-right:8px solid;border-left:0}\n");
     lines.put(b"tr.no{background:var(--mark);font-weight:700}\n");
     lines.put(b"tr.no td:first-child::before{content:\"\\2717\\a0\"}\n");
-    lines.put(b".late{opacity:.55}\n");
+    lines.put(b".late{opacity:.65}\n");
     lines.put(b".run{color:var(--pale);font-style:italic}.run div{border-style:none}\n");
     lines.put(b".could{color:var(--ink)}.could div{border:1px dashed;margin:.1rem 2rem}\n");
     lines.put(b"@media screen{body{display:flex;flex-direction:column}\n");
@@ -118,6 +118,22 @@ fn put_style_7<W: Sink>(lines: &mut Lines<'_, W>)
     lines.put(b"block-size:auto}}\n");
 }
 
+/// Puts a part of the style sheet.
+fn put_style_8<W: Sink>(lines: &mut Lines<'_, W>)
+    ensures { Writes lines.old lines.new style_8 }
+{
+    lines.put(b".to div::before{content:\"\\2192\\a0\"}\n");
+    lines.put(b".fro div::before{content:\"\\2190\\a0\"}\n");
+    lines.put(b"@media screen and (max-width:40rem){table,caption,thead,tbody{display:block}\n");
+    lines.put(b"tr{display:grid;grid-template-columns:1fr auto auto}\n");
+    lines.put(b"th:nth-child(n+4),.could td:nth-child(-n+3){display:none}\n");
+    lines.put(b"td:nth-child(n+4){grid-column:1/-1;width:auto;border:0;text-align:left}\n");
+    lines.put(b"td:nth-child(n+4):empty{display:none}\n");
+    lines.put(b"td:nth-child(6){text-align:right}\n");
+    lines.put(b"td:first-child{text-align:left;white-space:nowrap}\n");
+    lines.put(b"div{min-width:0}}\n");
+}
+
 /// Puts the style sheet.
 fn put_style<W: Sink>(lines: &mut Lines<'_, W>)
     ensures { Writes lines.old lines.new style_text }
@@ -129,6 +145,7 @@ fn put_style<W: Sink>(lines: &mut Lines<'_, W>)
     put_style_5(lines);
     put_style_6(lines);
     put_style_7(lines);
+    put_style_8(lines);
 }
 
 /// Puts what stands between the title and the heading.
