@@ -63,10 +63,10 @@ const fitted = new ResizeObserver(() => {
 });
 
 function show(name, { status, report, notes, lacks }, others) {
-  const told = [`${name}: ${STATUSES[status] ?? "?"} (exit status ${status}).`];
-  if (lacks) told.push("This browser gives no more memory, so the report lacks something.", INSTEAD);
-  if (others) told.push("Several files were given: this is the first.");
-  say(told.join(" "), Boolean(lacks));
+  const lines = [`${name}: ${STATUSES[status] ?? "?"} (exit status ${status}).`];
+  if (lacks) lines.push("This browser gives no more memory, so the report lacks something.", INSTEAD);
+  if (others) lines.push("Several files were given: this is the first.");
+  say(lines.join(" "), Boolean(lacks));
   at("notes").textContent = new TextDecoder().decode(notes);
   at("notes").hidden = notes.length === 0;
   URL.revokeObjectURL(at("save").href);

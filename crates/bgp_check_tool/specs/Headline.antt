@@ -91,9 +91,9 @@ NoneIsWhole =
     → NoOrderIsWhole (session_from side session) options.within end.framings
     (seen_from side connection)
 
--- A no or an unfinished that isn't known to hold over all orders is told of one only if more nodes
--- are reached, under one of the end's widest configurations, than the search over all looks at. So
--- it is unless memory is refused for that search.
+-- A no or an unfinished that isn't known to hold over all orders is about one only if more nodes
+-- are reached, under one of the end's widest configurations, than the search over all looks at, or
+-- if memory is refused for that search.
 abbrev pub OneOrderHasACause : Type 0
 OneOrderHasACause =
     (options : CheckOptions) (asked : Asked) (session : Session) (opening : Opening)

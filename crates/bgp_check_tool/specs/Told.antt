@@ -191,7 +191,7 @@ HasCause session within framings connection answer over_all lacks_memory =
 -- This is told of the end at this address and port, of this session, that has the connection so:
 -- what is answered of its records, or over all orders, and why, with what is said of other orders;
 -- of a no the first sent message that no order explains, if one is known; whether it is known to be
--- unfinished over all orders; why it is told of one order, if it holds of that alone; what the
+-- unfinished over all orders; why it is about one order, if it holds of that alone; what the
 -- answer becomes, where a message may be handled as late as it can be said; the line of a message
 -- that it sent goes by the limit of its receiver. And how `bgp judge` gives it, where the
 -- connection is asked for so.

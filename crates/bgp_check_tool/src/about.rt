@@ -38,7 +38,7 @@ fn has_opens(records: &[Record<'_>], found: &NoOrder<'_>) -> bool
 }
 
 /// Returns the no that the records of an end have under the configuration under which this message
-/// is the first that no order explains, with the AS number that the end's OPEN tells; `None` only if
+/// is the first that no order explains, with the AS number that the end's OPEN has; `None` only if
 /// they have other OPENs, or their verdict under it is another. As what no order explains isn't
 /// explained in the made one, they have this no.
 pub(crate) fn no_under<A: Allocator + Copy, T: Tracker<A>>(

@@ -26,8 +26,8 @@ pub fn no_configuration_has_a_run()
 }
 
 /// States what a no over all orders says: under no configuration under which the OPEN that the end
-/// sent is its own, and in no order that the packets allow, a run of the session machine explains a sent
-/// message that this packet is the first to show, and all before it. If the OPEN is any
+/// sent is its own, and in no order that the packets allow, a run of the session machine explains a
+/// sent message that this packet is the first to show, and all before it. If the OPEN is any
 /// configuration's own, under one of them a run explains those before it, in some such order. If it
 /// isn't, the message is that OPEN at the latest.
 pub fn no_order_has_a_run()
@@ -42,8 +42,8 @@ pub fn no_order_has_a_run()
 
 /// States what is unfinished over all orders: under no configuration under which the OPEN that the
 /// end sent is its own, and in no order that the packets allow, a run of the session machine shows
-/// just the end's records. Under one of these configurations, in some such order, a run explains all
-/// that the end sent.
+/// just the end's records. Under one of these configurations, in some such order, a run explains
+/// all that the end sent.
 pub fn no_order_is_whole()
     ensures found { UnfinishedByAll }
     ensures end { NoneIsWhole }
@@ -62,10 +62,9 @@ pub fn a_verdict_is_over_all_configurations()
     no_order_is_whole();
 }
 
-/// States why a no or an unfinished is told of one order, if it isn't known to hold over all: under
-/// one of the end's widest configurations the search over all orders reaches more nodes than it looks
-/// at. So it is unless memory is refused for that search, which the end's
-/// [mark](crate::EndMark) says.
+/// States why a no or an unfinished is about one order, if it isn't known to hold over all: under
+/// one of the end's widest configurations the search over all orders reaches more nodes than it
+/// looks at, or memory is refused for that search, which the end's [mark](crate::EndMark) says.
 pub fn one_order_is_told_for_a_cause()
     ensures { OneOrderHasACause }
 {}

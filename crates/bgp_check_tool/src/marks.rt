@@ -38,7 +38,7 @@ pub struct EndMark {
     /// Where its no stands, if it has one.
     pub no: NoAt,
     /// Whether memory was refused for the search over all orders. If not, a no or an unfinished is
-    /// told of one order alone only if that search was too long.
+    /// about one order alone only if that search was too long.
     pub lacks_memory: bool,
 }
 

@@ -16,7 +16,7 @@ pub struct MemVoice<A: Allocator = Global> {
 }
 
 impl<A: Allocator> MemVoice<A> {
-    /// Makes a voice that was told nothing yet.
+    /// Makes a voice that has said nothing yet.
     pub fn new(alloc: A) -> MemVoice<A>
         ensures { voice_text result ≡ [] }
     {

@@ -77,7 +77,7 @@ pub record IsYesOver (config : Config) (within : ℕ) (framings : Framings)
   pub is : HasVerdict config (records_of entries) (Yes ends)
 
 -- This is found over all orders of the connection's messages that the packets allow, where this
--- verdict is no yes. Nothing is told in its place if it is unfinished, and so it is over all of
+-- verdict is no yes. Nothing stands in its place if it is unfinished, and so it is over all of
 -- them. If another order is a yes, these are its entries.
 abbrev pub IsFoundOver : Config → ℕ → Framings → Connection → VerdictValue → List Entry → Found
     → Type 0
@@ -140,7 +140,7 @@ module _ (config : Config) (wanted : Import) (packets : List Recorded) (segments
       pub yes : IsYesOver config wanted.within (framings_of wanted.selection.session) connection
           entries ends
 
-    -- Nothing is found that is told in place of this verdict on the made records: it is a yes; or
+    -- Nothing is found that stands in place of this verdict on the made records: it is a yes; or
     -- it is unfinished, and so it is over all orders.
     abbrev pub IsNothing : Option ℕ → VerdictValue → Type 0
     IsNothing number verdict =

@@ -1,4 +1,4 @@
--- What the search of all orders finds that is told in place of the verdict on the made one.
+-- What the search of all orders finds that stands in place of the verdict on the made one.
 use Rattle.std.specs.Prelude.{◌≡◌, ◌≢◌, ℕ, List, []}
 use Rattle.bgp_open.specs.declared.config.Config.{Config}
 use Rattle.bgp_machine.specs.Run.{End}
@@ -12,9 +12,9 @@ use Rattle.bgp_recording_tool.specs.declared.orders.Searched.{Searched}
 use Rattle.bgp_recording_tool.specs.declared.orders.Searched.TheVariants as searches
 
 pub data Found : Type 0 where
-  -- nothing that is told: that verdict is the one over all orders
+  -- nothing in its place: that verdict is the one over all orders
   Nothing : Found
-  -- it isn't known what all orders say, for too many nodes: that verdict is told, which is no yes
+  -- it isn't known what all orders say, for too many nodes: that verdict stands, which is no yes
   TooMany : Found
   -- that verdict is a no, and no order explains this sent message; and what its reason says of
   -- other orders

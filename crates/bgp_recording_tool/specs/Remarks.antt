@@ -91,8 +91,8 @@ one_order_remark connection within entries Unfinished =
     Some (remark_on connection (kinds.OneOrder within))
 
 -- If there are too many orders, it is said that the verdict is about one. If a sent message is
--- known that no order explains, it is told: how many come before it, its packet, and how long a
--- message may have waited. Of each yes it is told that nothing was sent, where that is so.
+-- known that no order explains, the remark says how many come before it, its packet, and how long a
+-- message may have waited. For a yes it says that nothing was sent, if that is so.
 abbrev pub verdict_remark : Option ℕ → ℕ → List Entry → VerdictValue → Found → Option Remark
 verdict_remark connection within entries verdict Nothing = yes_remark connection entries verdict
 verdict_remark connection within entries verdict TooMany =

@@ -275,12 +275,12 @@ fn put_searched<A: Allocator + Copy, W: Sink>(
     }
 }
 
-/// Judges the records that are made of a connection, puts what is reported on them, adds what there
-/// is to tell of it, with a number where several are told of, and answers the exit status. If they
+/// Judges the records that are made of a connection, puts what is reported on them, adds the
+/// remarks, with a number if several connections are reported, and answers the exit status. If they
 /// aren't a yes, all orders are searched: another that is one is reported in place of the made one,
-/// and of a no a sent message that none explains in place of the record. If memory is refused for
-/// the verdict or for that search nothing is put or added; if it is refused for what there is to
-/// tell besides, that is left out.
+/// and for a no a sent message that none explains in place of the record. If memory is refused for
+/// the verdict or for that search nothing is put or added; if it is refused for the remarks, these
+/// are left out.
 fn report_made<A: Allocator + Copy, T: Tracker<A>, W: Sink>(
     alloc: A,
     config: &Config,

@@ -88,10 +88,10 @@ pub fn a_made_unfinished_is_no_no()
 
 /// States that the two starts of a way are enough. The standard has four: Connect or Active before
 /// the own OPEN (RFC 4271, 8.2.2), and the own OPEN delayed or not (DelayOpen). The end of a
-/// connection leads to Idle from each of them (by the standard to Active from a delayed Connect). Of what packets
-/// tell of a connection, so many messages are explained from one of the four exactly where some way
-/// explains them, the session can have ended so from one of them exactly where some way is whole
-/// and ends so, and the verdict over all ways is that from the four.
+/// connection leads to Idle from each of them (by the standard to Active from a delayed Connect).
+/// From what packets show of a connection, a run from one of the four explains so many messages
+/// exactly if some way does. A run from one of them ends in a state exactly if some whole way does.
+/// And the verdict over all ways is that from the four.
 pub fn two_starts_are_enough()
     ensures explained { TwoStartsExplainAll }
     ensures ends { TwoStartsEndAll }
@@ -100,8 +100,8 @@ pub fn two_starts_are_enough()
     a_member_is_reached();
 }
 
-/// States that more patience reaches no fewer nodes. So if the search is too long it needn't be made
-/// again with more: more nodes than it looks at are reached then, too.
+/// States that more patience reaches no fewer nodes. So if the search is too long it needn't be
+/// made again with more: more nodes than it looks at are reached then, too.
 pub fn more_patience_reaches_no_fewer_nodes()
     ensures reached { MorePatienceReaches }
     ensures nodes { MorePatienceKeepsNodes }
