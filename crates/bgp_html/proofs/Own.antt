@@ -12,7 +12,7 @@ use Rattle.bgp_html.specs.declared.tag.Column.TheVariants.{Left, Right}
 use Rattle.bgp_html.specs.declared.tag.Mark.{Mark}
 use Rattle.bgp_html.specs.declared.tag.Mark.TheVariants.{Plain, No, Behind, Possible}
 use Rattle.bgp_html.specs.declared.tag.Tag.{Tag}
-use Rattle.bgp_html.specs.declared.tag.Tag.TheVariants.{Ladder, CaptionEnd, Head, HeadEnd, Row, Cell, Message, MessageEnd, Change, ChangeEnd, LadderEnd, Page, AfterTitle, AfterName, Ladders, SectionEnd, Details, DetailsOpen, SummaryEnd, DetailsEnd}
+use Rattle.bgp_html.specs.declared.tag.Tag.TheVariants.{Ladder, CaptionEnd, Head, HeadEnd, Row, Cell, Message, MessageEnd, Change, ChangeEnd, LadderEnd, Page, AfterTitle, AfterName, Ladders, Stretches, SectionEnd, Details, DetailsOpen, SummaryEnd, DetailsEnd}
 use Rattle.bgp_html.specs.declared.tag.What.{What}
 use Rattle.bgp_html.specs.declared.tag.What.TheVariants.{Sent, Received, Changed, Run}
 
@@ -83,6 +83,7 @@ of_tag Page rest = refl
 of_tag AfterTitle rest = refl
 of_tag AfterName rest = refl
 of_tag Ladders rest = refl
+of_tag Stretches rest = refl
 of_tag SectionEnd rest = refl
 of_tag Details rest = refl
 of_tag DetailsOpen rest = refl

@@ -13,7 +13,7 @@ use Rattle.bgp_html.specs.declared.tag.Column.TheVariants.{Left, Right}
 use Rattle.bgp_html.specs.declared.tag.Mark.{Mark}
 use Rattle.bgp_html.specs.declared.tag.Mark.TheVariants.{Plain, No, Behind, Possible}
 use Rattle.bgp_html.specs.declared.tag.Tag.{Tag}
-use Rattle.bgp_html.specs.declared.tag.Tag.TheVariants.{Ladder, CaptionEnd, Head, HeadEnd, Row, Cell, Message, MessageEnd, Change, ChangeEnd, LadderEnd, Page, AfterTitle, AfterName, Ladders, SectionEnd, Details, DetailsOpen, SummaryEnd, DetailsEnd}
+use Rattle.bgp_html.specs.declared.tag.Tag.TheVariants.{Ladder, CaptionEnd, Head, HeadEnd, Row, Cell, Message, MessageEnd, Change, ChangeEnd, LadderEnd, Page, AfterTitle, AfterName, Ladders, Stretches, SectionEnd, Details, DetailsOpen, SummaryEnd, DetailsEnd}
 use Rattle.bgp_html.specs.declared.tag.What.{What}
 use Rattle.bgp_html.specs.declared.tag.What.TheVariants.{Sent, Received, Changed, Run}
 
@@ -97,6 +97,7 @@ seen_tag Page rest = refl
 seen_tag AfterTitle rest = refl
 seen_tag AfterName rest = refl
 seen_tag Ladders rest = refl
+seen_tag Stretches rest = refl
 seen_tag SectionEnd rest = refl
 seen_tag Details rest = refl
 seen_tag DetailsOpen rest = refl
@@ -123,6 +124,7 @@ printed_tag Page rest = refl
 printed_tag AfterTitle rest = refl
 printed_tag AfterName rest = refl
 printed_tag Ladders rest = refl
+printed_tag Stretches rest = refl
 printed_tag SectionEnd rest = refl
 printed_tag Details rest = refl
 printed_tag DetailsOpen rest = refl

@@ -55,14 +55,14 @@ style_4 =
     ++ (codes "table{border-collapse:collapse;width:100%;font-size:.85rem;margin:.5rem 0}\n"
     ++ (codes "caption,th{text-align:left}\n"
     ++ (codes "th,td{padding:.1rem .4rem;vertical-align:bottom}\n"
-    ++ (codes "td:nth-child(-n+3){width:1%;white-space:nowrap;text-align:right}\n"
-    ++ codes "td:nth-child(4){width:11rem;border-right:2px solid var(--line);\n"))))))
+    ++ (codes "td:nth-last-child(n+4){width:1%;white-space:nowrap;text-align:right}\n"
+    ++ codes "td:nth-last-child(3){width:11rem;border-right:2px solid var(--line);\n"))))))
 
 abbrev pub style_5 : List ℕ
 style_5 =
     codes "text-align:right}\n"
-    ++ (codes "td:nth-child(6){width:11rem;border-left:2px solid var(--line)}\n"
-    ++ (codes "td:nth-child(5){padding:.2rem 0 .3rem}\n"
+    ++ (codes "td:last-child{width:11rem;border-left:2px solid var(--line)}\n"
+    ++ (codes "td:nth-last-child(2){padding:.2rem 0 .3rem}\n"
     ++ (codes "div{position:relative;border-bottom:1px solid;padding:0 1rem;min-width:13rem;\n"
     ++ (codes "overflow-wrap:anywhere;unicode-bidi:isolate}\n"
     ++ (codes "div::after{content:\"\";position:absolute;bottom:-5px;\n"
@@ -82,7 +82,7 @@ style_6 =
 abbrev pub style_7 : List ℕ
 style_7 =
     codes "h1{order:-3}body>.about{order:-2}body>.about~.about{order:1}.sum{order:-1}}\n"
-    ++ (codes "@media print,(max-width:60rem){td:nth-child(4),td:nth-child(6){width:6rem}\n"
+    ++ (codes "@media print,(max-width:60rem){td:nth-last-child(3),td:last-child{width:6rem}\n"
     ++ (codes "td:first-child{white-space:normal;min-width:6.5rem}.could div{margin:.1rem}}\n"
     ++ (codes "@media print{:root{font-size:9pt}body{max-width:none;margin:0}\n"
     ++ (codes "h2,h3,summary{break-after:avoid}tr{break-inside:avoid}\n"
@@ -95,10 +95,10 @@ style_8 =
     ++ (codes ".fro div::before{content:\"\\2190\\a0\"}\n"
     ++ (codes "@media screen and (max-width:40rem){table,caption,thead,tbody{display:block}\n"
     ++ (codes "tr{display:grid;grid-template-columns:1fr auto auto}\n"
-    ++ (codes "th:nth-child(n+4),.could td:nth-child(-n+3){display:none}\n"
-    ++ (codes "td:nth-child(n+4){grid-column:1/-1;width:auto;border:0;text-align:left}\n"
-    ++ (codes "td:nth-child(n+4):empty{display:none}\n"
-    ++ (codes "td:nth-child(6){text-align:right}\n"
+    ++ (codes "th:nth-last-child(-n+3),.could td:nth-last-child(n+4){display:none}\n"
+    ++ (codes "td:nth-last-child(-n+3){grid-column:1/-1;width:auto;border:0;text-align:left}\n"
+    ++ (codes "td:nth-last-child(-n+3):empty{display:none}\n"
+    ++ (codes "td:last-child{text-align:right}\n"
     ++ (codes "td:first-child{text-align:left;white-space:nowrap}\n"
     ++ codes "div{min-width:0}}\n"))))))))
 
@@ -152,15 +152,37 @@ ladders_text =
     ++ (codes "of the same packet as the row above it. came before: the packet came "
     ++ (codes "before that of a row above it, and was handled after it. No packet shows "
     ++ (codes "a change of state: it stands at the packet of the message beside it, or "
-    ++ (codes "of the end of the connection. The row of a no has a cross. The dashed "
-    ++ (codes "rows below it say what could have come in its place, or had to: they are "
-    ++ (codes "lines of the answer above. Dashed rows at the end of a table say what is "
-    ++ (codes "due next. The rows after those of a no are pale: they are not judged. If "
-    ++ (codes "the answer names an earlier packet in the order of bgp import, that one "
-    ++ (codes "is not allowed in this order alone; the message of the row with the cross "
-    ++ codes "is not allowed in any."))))))))))))
+    ++ (codes "of the end of the connection. The row of a no has a cross. Dashed rows "
+    ++ (codes "say what could have come in place of the record above them, or had to: "
+    ++ (codes "they are lines of the answer above. Dashed rows at the end of a table say "
+    ++ (codes "what is due next. The rows after that of a no are pale: they are not "
+    ++ (codes "judged. If the answer names a packet in the order of bgp import, the dashed "
+    ++ (codes "rows stand below its record: in this order that record is not allowed, in "
+    ++ (codes "another it may be; the message of the row with the cross is not allowed in "
+    ++ codes "any.")))))))))))))
 
 abbrev pub ladders_start : List ℕ
 ladders_start =
     codes "<section>\n<h2><b>Records</b></h2>\n<p class=\"about\">"
     ++ (ladders_text ++ codes "</p>\n")
+
+-- ---- what those of stretches say
+
+abbrev pub stretches_text : List ℕ
+stretches_text =
+    codes "Each stretch that is judged has a table here: its records, a row each, in "
+    ++ (codes "the order of the file. A stretch is the records from one change that leaves "
+    ++ (codes "Idle to the next, whose row ends the table. The number of a record is that "
+    ++ (codes "in its session; a ROUTE-REFRESH that is passed over has no row. The right "
+    ++ (codes "column is the local system, which is judged, and the left one its peer. An "
+    ++ (codes "arrow points from the sender of a message to its receiver. Seconds are "
+    ++ (codes "counted from the first record of the session. The row of a no has a cross. "
+    ++ (codes "The dashed rows below it say what could have come in its place, or had to: "
+    ++ (codes "they are lines of the answer above. Dashed rows at the end of a table say "
+    ++ (codes "what is due next. The rows after that of a no are pale: they are not "
+    ++ codes "judged.")))))))))
+
+abbrev pub stretches_start : List ℕ
+stretches_start =
+    codes "<section>\n<h2><b>Records</b></h2>\n<p class=\"about\">"
+    ++ (stretches_text ++ codes "</p>\n")

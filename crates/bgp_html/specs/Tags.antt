@@ -1,7 +1,7 @@
 -- The markup of a report (the HTML standard, 13.1.2): rows and cells end where the next begins.
 use Rattle.std.specs.Prelude.{◌++◌, ℕ, List, [], codes}
 use Rattle.bgp_html.specs.Page.{about_text, after_name, after_title, ladders_start, ladders_text}
-use Rattle.bgp_html.specs.Page.{page_start, words_text}
+use Rattle.bgp_html.specs.Page.{page_start, stretches_start, stretches_text, words_text}
 use Rattle.bgp_html.specs.declared.tag.Column.TheVariants.{Left, Right}
 use Rattle.bgp_html.specs.declared.tag.Mark.{Mark}
 use Rattle.bgp_html.specs.declared.tag.Mark.TheVariants.{Plain, No, Behind, Possible}
@@ -10,8 +10,8 @@ use Rattle.bgp_html.specs.declared.tag.Tag.TheVariants.{Ladder, CaptionEnd, Head
 use Rattle.bgp_html.specs.declared.tag.Tag.TheVariants.{Cell, Message, MessageEnd, Change}
 use Rattle.bgp_html.specs.declared.tag.Tag.TheVariants.{ChangeEnd, LadderEnd}
 use Rattle.bgp_html.specs.declared.tag.Tag.TheVariants.{Page, AfterTitle, AfterName, Ladders}
-use Rattle.bgp_html.specs.declared.tag.Tag.TheVariants.{SectionEnd, Details, DetailsOpen}
-use Rattle.bgp_html.specs.declared.tag.Tag.TheVariants.{SummaryEnd, DetailsEnd}
+use Rattle.bgp_html.specs.declared.tag.Tag.TheVariants.{Stretches, SectionEnd, Details}
+use Rattle.bgp_html.specs.declared.tag.Tag.TheVariants.{DetailsOpen, SummaryEnd, DetailsEnd}
 use Rattle.bgp_html.specs.declared.tag.What.{What}
 use Rattle.bgp_html.specs.declared.tag.What.TheVariants.{Sent, Received, Changed, Run}
 
@@ -53,6 +53,7 @@ tag_text Page = page_start
 tag_text AfterTitle = after_title
 tag_text AfterName = after_name
 tag_text Ladders = ladders_start
+tag_text Stretches = stretches_start
 tag_text SectionEnd = codes "</section>\n"
 tag_text Details = codes "<details><summary>"
 tag_text DetailsOpen = codes "<details open><summary>"
@@ -77,6 +78,7 @@ tag_words AfterTitle = codes ": bgp check\n\n"
 tag_words AfterName =
     codes "\n" ++ (about_text ++ (codes "\n" ++ (words_text ++ codes "\n")))
 tag_words Ladders = codes "\nRecords\n" ++ (ladders_text ++ codes "\n")
+tag_words Stretches = codes "\nRecords\n" ++ (stretches_text ++ codes "\n")
 tag_words SectionEnd = codes "\n"
 tag_words Details = []
 tag_words DetailsOpen = []

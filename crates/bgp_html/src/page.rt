@@ -2,7 +2,8 @@
 
 ghost use Rattle.bgp_text.specs.Lines.{Writes};
 ghost use Rattle.bgp_html.specs.Page.{about_text, after_name, after_title, ladders_start};
-ghost use Rattle.bgp_html.specs.Page.{ladders_text, page_start, words_text};
+ghost use Rattle.bgp_html.specs.Page.{ladders_text, page_start, stretches_start, stretches_text};
+ghost use Rattle.bgp_html.specs.Page.{words_text};
 ghost use Rattle.bgp_html.specs.Page.{style_1, style_2, style_3, style_4};
 ghost use Rattle.bgp_html.specs.Page.{style_5, style_6, style_7, style_8, style_text};
 
@@ -74,8 +75,8 @@ fn put_style_4<W: Sink>(lines: &mut Lines<'_, W>)
     lines.put(b"table{border-collapse:collapse;width:100%;font-size:.85rem;margin:.5rem 0}\n");
     lines.put(b"caption,th{text-align:left}\n");
     lines.put(b"th,td{padding:.1rem .4rem;vertical-align:bottom}\n");
-    lines.put(b"td:nth-child(-n+3){width:1%;white-space:nowrap;text-align:right}\n");
-    lines.put(b"td:nth-child(4){width:11rem;border-right:2px solid var(--line);\n");
+    lines.put(b"td:nth-last-child(n+4){width:1%;white-space:nowrap;text-align:right}\n");
+    lines.put(b"td:nth-last-child(3){width:11rem;border-right:2px solid var(--line);\n");
 }
 
 /// Puts a part of the style sheet.
@@ -83,8 +84,8 @@ fn put_style_5<W: Sink>(lines: &mut Lines<'_, W>)
     ensures { Writes lines.old lines.new style_5 }
 {
     lines.put(b"text-align:right}\n");
-    lines.put(b"td:nth-child(6){width:11rem;border-left:2px solid var(--line)}\n");
-    lines.put(b"td:nth-child(5){padding:.2rem 0 .3rem}\n");
+    lines.put(b"td:last-child{width:11rem;border-left:2px solid var(--line)}\n");
+    lines.put(b"td:nth-last-child(2){padding:.2rem 0 .3rem}\n");
     lines.put(b"div{position:relative;border-bottom:1px solid;padding:0 1rem;min-width:13rem;\n");
     lines.put(b"overflow-wrap:anywhere;unicode-bidi:isolate}\n");
     lines.put(b"div::after{content:\"\";position:absolute;bottom:-5px;\n");
@@ -110,7 +111,7 @@ fn put_style_7<W: Sink>(lines: &mut Lines<'_, W>)
     ensures { Writes lines.old lines.new style_7 }
 {
     lines.put(b"h1{order:-3}body>.about{order:-2}body>.about~.about{order:1}.sum{order:-1}}\n");
-    lines.put(b"@media print,(max-width:60rem){td:nth-child(4),td:nth-child(6){width:6rem}\n");
+    lines.put(b"@media print,(max-width:60rem){td:nth-last-child(3),td:last-child{width:6rem}\n");
     lines.put(b"td:first-child{white-space:normal;min-width:6.5rem}.could div{margin:.1rem}}\n");
     lines.put(b"@media print{:root{font-size:9pt}body{max-width:none;margin:0}\n");
     lines.put(b"h2,h3,summary{break-after:avoid}tr{break-inside:avoid}\n");
@@ -126,10 +127,10 @@ fn put_style_8<W: Sink>(lines: &mut Lines<'_, W>)
     lines.put(b".fro div::before{content:\"\\2190\\a0\"}\n");
     lines.put(b"@media screen and (max-width:40rem){table,caption,thead,tbody{display:block}\n");
     lines.put(b"tr{display:grid;grid-template-columns:1fr auto auto}\n");
-    lines.put(b"th:nth-child(n+4),.could td:nth-child(-n+3){display:none}\n");
-    lines.put(b"td:nth-child(n+4){grid-column:1/-1;width:auto;border:0;text-align:left}\n");
-    lines.put(b"td:nth-child(n+4):empty{display:none}\n");
-    lines.put(b"td:nth-child(6){text-align:right}\n");
+    lines.put(b"th:nth-last-child(-n+3),.could td:nth-last-child(n+4){display:none}\n");
+    lines.put(b"td:nth-last-child(-n+3){grid-column:1/-1;width:auto;border:0;text-align:left}\n");
+    lines.put(b"td:nth-last-child(-n+3):empty{display:none}\n");
+    lines.put(b"td:last-child{text-align:right}\n");
     lines.put(b"td:first-child{text-align:left;white-space:nowrap}\n");
     lines.put(b"div{min-width:0}}\n");
 }
@@ -209,20 +210,48 @@ fn put_about_ladders<W: Sink>(lines: &mut Lines<'_, W>)
     lines.put(b"of the same packet as the row above it. came before: the packet came ");
     lines.put(b"before that of a row above it, and was handled after it. No packet shows ");
     lines.put(b"a change of state: it stands at the packet of the message beside it, or ");
-    lines.put(b"of the end of the connection. The row of a no has a cross. The dashed ");
-    lines.put(b"rows below it say what could have come in its place, or had to: they are ");
-    lines.put(b"lines of the answer above. Dashed rows at the end of a table say what is ");
-    lines.put(b"due next. The rows after those of a no are pale: they are not judged. If ");
-    lines.put(b"the answer names an earlier packet in the order of bgp import, that one ");
-    lines.put(b"is not allowed in this order alone; the message of the row with the cross ");
-    lines.put(b"is not allowed in any.");
+    lines.put(b"of the end of the connection. The row of a no has a cross. Dashed rows ");
+    lines.put(b"say what could have come in place of the record above them, or had to: ");
+    lines.put(b"they are lines of the answer above. Dashed rows at the end of a table say ");
+    lines.put(b"what is due next. The rows after that of a no are pale: they are not ");
+    lines.put(b"judged. If the answer names a packet in the order of bgp import, the dashed ");
+    lines.put(b"rows stand below its record: in this order that record is not allowed, in ");
+    lines.put(b"another it may be; the message of the row with the cross is not allowed in ");
+    lines.put(b"any.");
 }
 
-/// Puts the start of what stands after the text: a heading, and what the rows say.
+/// Puts the start of what stands after the text about a recording: a heading, and what the rows
+/// say.
 pub(crate) fn put_ladders_start<W: Sink>(lines: &mut Lines<'_, W>)
     ensures { Writes lines.old lines.new ladders_start }
 {
     lines.put(b"<section>\n<h2><b>Records</b></h2>\n<p class=\"about\">");
     put_about_ladders(lines);
+    lines.put(b"</p>\n");
+}
+
+/// Puts what the rows of a stretch say.
+fn put_about_stretches<W: Sink>(lines: &mut Lines<'_, W>)
+    ensures { Writes lines.old lines.new stretches_text }
+{
+    lines.put(b"Each stretch that is judged has a table here: its records, a row each, in ");
+    lines.put(b"the order of the file. A stretch is the records from one change that leaves ");
+    lines.put(b"Idle to the next, whose row ends the table. The number of a record is that ");
+    lines.put(b"in its session; a ROUTE-REFRESH that is passed over has no row. The right ");
+    lines.put(b"column is the local system, which is judged, and the left one its peer. An ");
+    lines.put(b"arrow points from the sender of a message to its receiver. Seconds are ");
+    lines.put(b"counted from the first record of the session. The row of a no has a cross. ");
+    lines.put(b"The dashed rows below it say what could have come in its place, or had to: ");
+    lines.put(b"they are lines of the answer above. Dashed rows at the end of a table say ");
+    lines.put(b"what is due next. The rows after that of a no are pale: they are not ");
+    lines.put(b"judged.");
+}
+
+/// Puts the same start after the text about a capture.
+pub(crate) fn put_stretches_start<W: Sink>(lines: &mut Lines<'_, W>)
+    ensures { Writes lines.old lines.new stretches_start }
+{
+    lines.put(b"<section>\n<h2><b>Records</b></h2>\n<p class=\"about\">");
+    put_about_stretches(lines);
     lines.put(b"</p>\n");
 }

@@ -6,12 +6,14 @@ ghost use Rattle.bgp_html.specs.declared.tag.Mark.TheVariants.{Plain};
 ghost use Rattle.bgp_html.specs.declared.tag.Tag.TheVariants.{Change, ChangeEnd, Ladder};
 ghost use Rattle.bgp_html.specs.declared.tag.What.TheVariants.{Received, Sent};
 
-use crate::page::{put_after_name, put_after_title, put_ladders_start, put_page_start};
+use crate::page::{
+    put_after_name, put_after_title, put_ladders_start, put_page_start, put_stretches_start,
+};
 use bgp_text::Lines;
 use mrt::Sink;
 
 /// In which column of a ladder the end stands that is judged: the left one is that of the end which
-/// opened the connection.
+/// opened the connection. In a capture the right one is that of the local system.
 #[derive(Clone, Copy, Debug, PartialEq, Eq)]
 pub enum Column {
     /// The first.
@@ -77,8 +79,11 @@ pub enum Tag {
     AfterTitle,
     /// The end of the heading, and what the answers say.
     AfterName,
-    /// The start of what stands after the text, with a heading and what the rows say; and its end.
+    /// The start of what stands after the text about a recording, with a heading and what the rows
+    /// say; and its end.
     Ladders,
+    /// The same start after the text about a capture.
+    Stretches,
     /// See `Ladders`.
     SectionEnd,
     /// The start of what is shown when it is asked for, and of its summary.
@@ -225,6 +230,7 @@ pub fn put_tag<W: Sink>(lines: &mut Lines<'_, W>, tag: Tag)
         Tag::AfterTitle => put_after_title(lines),
         Tag::AfterName => put_after_name(lines),
         Tag::Ladders => put_ladders_start(lines),
+        Tag::Stretches => put_stretches_start(lines),
         Tag::SectionEnd => lines.put(b"</section>\n"),
         Tag::Details => lines.put(b"<details><summary>"),
         Tag::DetailsOpen => lines.put(b"<details open><summary>"),

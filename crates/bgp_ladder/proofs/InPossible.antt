@@ -5,6 +5,7 @@ use Rattle.std.proofs.lemmas.List.{drop_all, drop_more, get_or-drop, take_more}
 use Rattle.std.specs.List.{list_any}
 use Rattle.bgp_html.specs.Pieces.{Piece}
 use Rattle.bgp_ladder.specs.Possible.{EachLineHasARow, possible_row, possible_rows, rows_from}
+use Rattle.bgp_ladder.specs.declared.numbering.Numbering.{Numbering}
 
 -- ---- each line has a row
 
@@ -12,29 +13,29 @@ neither : (x y : Bool) → (x || y) ≡ false → (x ≡ false) × (y ≡ false)
 neither true y is = absurd (false≢true (sym is))
 neither false y is = (refl, is)
 
-line_by : (octet : ℕ) (so_far line text : List ℕ) (last : Bool) → last ≡ false
-    → (if last then possible_row so_far ++ rows_from [] (line ++ 10 ∷ text) else rows_from (so_far ++ octet ∷ []) (line ++ 10 ∷ text))
-    ≡ rows_from (so_far ++ octet ∷ []) (line ++ 10 ∷ text)
-line_by octet so_far line text true is = absurd (false≢true (sym is))
-line_by octet so_far line text false is = refl
+line_by : (numbering : Numbering) (octet : ℕ) (so_far line text : List ℕ) (last : Bool) → last ≡ false
+    → (if last then possible_row numbering so_far ++ rows_from numbering [] (line ++ 10 ∷ text) else rows_from numbering (so_far ++ octet ∷ []) (line ++ 10 ∷ text))
+    ≡ rows_from numbering (so_far ++ octet ∷ []) (line ++ 10 ∷ text)
+line_by numbering octet so_far line text true is = absurd (false≢true (sym is))
+line_by numbering octet so_far line text false is = refl
 
-its_row : (line so_far text : List ℕ) → list_any (λ (octet : ℕ). octet == 10) line ≡ false
-    → rows_from so_far (line ++ 10 ∷ text) ≡ possible_row (so_far ++ line) ++ possible_rows text
-its_row [] so_far text none = ap (λ (l : List ℕ). possible_row l ++ possible_rows text) (sym (append-nil so_far))
-its_row (octet ∷ line) so_far text none =
+its_row : (numbering : Numbering) (line so_far text : List ℕ) → list_any (λ (octet : ℕ). octet == 10) line ≡ false
+    → rows_from numbering so_far (line ++ 10 ∷ text) ≡ possible_row numbering (so_far ++ line) ++ possible_rows numbering text
+its_row numbering [] so_far text none = ap (λ (l : List ℕ). possible_row numbering l ++ possible_rows numbering text) (sym (append-nil so_far))
+its_row numbering (octet ∷ line) so_far text none =
     let both = neither (octet == 10) (list_any (λ (o : ℕ). o == 10) line) none in
-    line_by octet so_far line text (octet == 10) both.0 ∙ its_row line (so_far ++ octet ∷ []) text both.1
-    ∙ ap (λ (l : List ℕ). possible_row l ++ possible_rows text) (append_assoc so_far (octet ∷ []) line)
+    line_by numbering octet so_far line text (octet == 10) both.0 ∙ its_row numbering line (so_far ++ octet ∷ []) text both.1
+    ∙ ap (λ (l : List ℕ). possible_row numbering l ++ possible_rows numbering text) (append_assoc so_far (octet ∷ []) line)
 
 pub each_line : EachLineHasARow
-each_line line text none = its_row line [] text none
+each_line numbering line text none = its_row numbering line [] text none
 
 -- ---- one octet further
 
 none_between : (n : ℕ) → n - n ≡ 0
 none_between n = omega arith
 
-module _ (text : List ℕ) (first place : ℕ) (within : place < length text) (after : first ≤ place) where
+module _ (numbering : Numbering) (text : List ℕ) (first place : ℕ) (within : place < length text) (after : first ≤ place) where
   here : drop place text ≡ get_or text place 0 ∷ drop (place + 1) text
   here = drop_more text place 0 within
 
@@ -43,10 +44,10 @@ module _ (text : List ℕ) (first place : ℕ) (within : place < length text) (a
 
   -- it ends a line
   pub line_ends : get_or text place 0 ≡ 10
-      → possible_row line ++ rows_from (take (place + 1 - (place + 1)) (drop (place + 1) text)) (drop (place + 1) text) ≡ rows_from line (drop place text)
+      → possible_row numbering line ++ rows_from numbering (take (place + 1 - (place + 1)) (drop (place + 1) text)) (drop (place + 1) text) ≡ rows_from numbering line (drop place text)
   line_ends is =
-      ap (λ (n : ℕ). possible_row line ++ rows_from (take n (drop (place + 1) text)) (drop (place + 1) text)) (none_between (place + 1))
-      ∙ sym (ap (λ (os : List ℕ). rows_from line os) here ∙ (rw (eq-eqb (get_or text place 0) 10 is) refl))
+      ap (λ (n : ℕ). possible_row numbering line ++ rows_from numbering (take n (drop (place + 1) text)) (drop (place + 1) text)) (none_between (place + 1))
+      ∙ sym (ap (λ (os : List ℕ). rows_from numbering line os) here ∙ (rw (eq-eqb (get_or text place 0) 10 is) refl))
 
   longer : take (place + 1 - first) (drop first text) ≡ line ++ get_or text place 0 ∷ []
   longer =
@@ -59,15 +60,15 @@ module _ (text : List ℕ) (first place : ℕ) (within : place < length text) (a
 
   -- or doesn't
   pub line_goes_on : get_or text place 0 ≢ 10
-      → [] ++ rows_from (take (place + 1 - first) (drop first text)) (drop (place + 1) text) ≡ rows_from line (drop place text)
+      → [] ++ rows_from numbering (take (place + 1 - first) (drop first text)) (drop (place + 1) text) ≡ rows_from numbering line (drop place text)
   line_goes_on is =
-      ap (λ (l : List ℕ). rows_from l (drop (place + 1) text)) longer
-      ∙ sym (ap (λ (os : List ℕ). rows_from line os) here ∙ (rw (ne_eqb (get_or text place 0) 10 is) refl))
+      ap (λ (l : List ℕ). rows_from numbering l (drop (place + 1) text)) longer
+      ∙ sym (ap (λ (os : List ℕ). rows_from numbering line os) here ∙ (rw (ne_eqb (get_or text place 0) 10 is) refl))
 
 -- the rows so far, one more octet, and no octet more
 pub further : (rows more : List Piece) (so_far next all : List Piece) → rows ++ so_far ≡ all → more ++ next ≡ so_far → (rows ++ more) ++ next ≡ all
 further rows more so_far next all is one = append_assoc rows more next ∙ ap (λ (ps : List Piece). rows ++ ps) one ∙ is
 
-pub none_left : (text line : List ℕ) (place : ℕ) (rows all : List Piece) → length text ≤ place → rows ++ rows_from line (drop place text) ≡ all → rows ≡ all
-none_left text line place rows all ends is =
-    sym (append-nil rows) ∙ ap (λ (os : List ℕ). rows ++ rows_from line os) (sym (drop_all place text ends)) ∙ is
+pub none_left : (numbering : Numbering) (text line : List ℕ) (place : ℕ) (rows all : List Piece) → length text ≤ place → rows ++ rows_from numbering line (drop place text) ≡ all → rows ≡ all
+none_left numbering text line place rows all ends is =
+    sym (append-nil rows) ∙ ap (λ (os : List ℕ). rows ++ rows_from numbering line os) (sym (drop_all place text ends)) ∙ is

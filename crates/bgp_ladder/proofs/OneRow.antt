@@ -1,6 +1,6 @@
 -- One row more.
-use Rattle.std.proofs.Common.{◌≡◌, ◌∙◌, ◌++◌, ◌+◌, ◌<◌, ℕ, List, [], ◌∷◌, Option, None, Some, append-nil, append_assoc, arith, drop, get_or, if◌then◌else◌, length, length-take-le, refl, reverse, sym, ap, subst, take}
-use Rattle.std.proofs.lemmas.List.{take_more}
+use Rattle.std.proofs.Common.{◌≡◌, ◌∙◌, ◌++◌, ◌+◌, ◌-◌, ◌<◌, ℕ, List, [], ◌∷◌, Option, None, Some, append-nil, append_assoc, arith, drop, get_or, if◌then◌else◌, length, length-take-le, refl, reverse, sym, ap, subst, take}
+use Rattle.std.proofs.lemmas.List.{get_or-drop, take_more}
 use Rattle.std.specs.List.{last_or}
 use Rattle.std.specs.Prelude.{Bool, true, false, nat_lt}
 use Rattle.mrt.specs.Reader.{shown_of}
@@ -15,7 +15,7 @@ use Rattle.bgp_lines.specs.Form.{Before, before_behind, nothing_before}
 use Rattle.bgp_recording.specs.declared.entry.Entry.{Entry}
 use Rattle.bgp_values.specs.Opens.{AreOpens}
 use Rattle.bgp_values.specs.declared.opens.Opens.{Opens}
-use Rattle.bgp_ladder.specs.Ladder.{AreRowsBefore, AreRowsBetween, IsEntryOf, IsRow, PutsRowsBefore, before_in, greatest_in, part_in}
+use Rattle.bgp_ladder.specs.Ladder.{AreRowsBefore, AreRowsBetween, IsEntryOf, IsRow, PutsRowsBefore, before_in, greatest_in, part_in, summed_last}
 use Rattle.bgp_ladder.specs.Runs.{IsRun, part_of, run_before, run_behind}
 use Rattle.bgp_ladder.specs.declared.rows.Ladder.{Ladder}
 use Rattle.bgp_ladder.specs.declared.runs.Part.{Part}
@@ -67,40 +67,54 @@ module _ (ladder : Ladder) (possible : List ℕ) (entries : List Entry) (i : ℕ
   it = get_or entries i d
 
   -- its part
-  pub its_part : (run : Run) (part : Part) → IsRun ladder.impossible (reverse (take (i + 1) entries)) (drop (i + 1) entries) run
+  pub its_part : (run : Run) (part : Part) → IsRun ladder (reverse (take (i + 1) entries)) (drop (i + 1) entries) run
       → ((before : ℕ) → run.length ≡ before + 1 + run.behind → part ≡ part_of before run.behind)
-      → part ≡ part_in ladder.impossible (take i entries) it (drop (i + 1) entries)
+      → part ≡ part_in ladder (take i entries) it (drop (i + 1) entries)
   its_part run part is parted =
       let count : i ≡ length (take i entries) = sym (length-take-le i entries (omega (arith, within))) in
-      parted _ (is_whole ladder.impossible entries i d within run is)
-      ∙ ap (λ (n : ℕ). part_of (run_before ladder.impossible (shown_of it.record) (reverse (take i entries))) n)
-      (is_behind ladder.impossible entries i d within run is
-      ∙ ap (λ (n : ℕ). run_behind ladder.impossible n (shown_of it.record) (drop (i + 1) entries)) count)
+      parted _ (is_whole ladder entries i d within run is)
+      ∙ ap (λ (n : ℕ). part_of (run_before ladder (shown_of it.record) (reverse (take i entries))) n)
+      (is_behind ladder entries i d within run is
+      ∙ ap (λ (n : ℕ). run_behind ladder n (shown_of it.record) (drop (i + 1) entries)) count)
 
-  module _ (previous : Option Entry) (greatest : ℕ) (opens : Opens) (part : Part) (row : List Piece) where
-    next_row : Known entries i previous greatest opens → part ≡ part_in ladder.impossible (take i entries) it (drop (i + 1) entries)
-        → IsEntryOf ladder possible opens greatest previous i it part row → IsRow ladder possible (take i entries) it (drop (i + 1) entries) row
-    next_row known is shows =
-        let count : i ≡ length (take i entries) = sym (length-take-le i entries (omega (arith, within))) in (
+  -- the last one that its row would sum up
+  pub its_last : (run : Run) (last : Entry) → IsRun ladder (reverse (take (i + 1) entries)) (drop (i + 1) entries) run
+      → ((e : Entry) → last ≡ get_or entries (i + (run.behind - 1)) e) → last ≡ summed_last ladder (take i entries) it (drop (i + 1) entries)
+  its_last run last is known =
+      let count : i ≡ length (take i entries) = sym (length-take-le i entries (omega (arith, within))) in
+      let same : run.behind ≡ run_behind ladder (length (take i entries)) (shown_of it.record) (drop (i + 1) entries) =
+      is_behind ladder entries i d within run is ∙ ap (λ (n : ℕ). run_behind ladder n (shown_of it.record) (drop (i + 1) entries)) count in
+      known it ∙ sym (get_or-drop i entries (run.behind - 1) it)
+      ∙ ap (λ (es : List Entry). get_or es (run.behind - 1) it) (rest_here entries i d within)
+      ∙ ap (λ (n : ℕ). get_or (it ∷ drop (i + 1) entries) (n - 1) it) same
+
+  module _ (previous : Option Entry) (greatest : ℕ) (opens : Opens) (last : Entry) (part : Part) (row : List Piece) where
+    next_row : Known entries i previous greatest opens → last ≡ summed_last ladder (take i entries) it (drop (i + 1) entries)
+        → part ≡ part_in ladder (take i entries) it (drop (i + 1) entries)
+        → IsEntryOf ladder possible opens greatest previous i it last part row → IsRow ladder possible (take i entries) it (drop (i + 1) entries) row
+    next_row known to is shows =
+        let count : i ≡ length (take i entries) = sym (length-take-le i entries (omega (arith, within))) in
+        let end = summed_last ladder (take i entries) it (drop (i + 1) entries) in (
           opens,
           known.opened,
-          subst (λ (p : Part). IsEntryOf ladder possible opens (greatest_in 0 (take i entries)) (last_or None (take i entries)) (length (take i entries)) it p row) is
-              (subst (λ (n : ℕ). IsEntryOf ladder possible opens (greatest_in 0 (take i entries)) (last_or None (take i entries)) n it part row) count
-              (subst (λ (o : Option Entry). IsEntryOf ladder possible opens (greatest_in 0 (take i entries)) o i it part row) known.last
-              (subst (λ (g : ℕ). IsEntryOf ladder possible opens g previous i it part row) known.most shows))),
+          subst (λ (p : Part). IsEntryOf ladder possible opens (greatest_in 0 (take i entries)) (last_or None (take i entries)) (length (take i entries)) it end p row) is
+              (subst (λ (e : Entry). IsEntryOf ladder possible opens (greatest_in 0 (take i entries)) (last_or None (take i entries)) (length (take i entries)) it e part row) to
+              (subst (λ (n : ℕ). IsEntryOf ladder possible opens (greatest_in 0 (take i entries)) (last_or None (take i entries)) n it last part row) count
+              (subst (λ (o : Option Entry). IsEntryOf ladder possible opens (greatest_in 0 (take i entries)) o i it last part row) known.last
+              (subst (λ (g : ℕ). IsEntryOf ladder possible opens g previous i it last part row) known.most shows)))),
         )
 
     -- and it was put
     pub next_rows : {W : Type 0} {sink : sinks.Ghosts W} {a b c : Lines W sink} → Joins sink → Known entries i previous greatest opens
-        → part ≡ part_in ladder.impossible (take i entries) it (drop (i + 1) entries)
-        → PutsRowsBefore ladder possible (take i entries) (drop i entries) a b → IsEntryOf ladder possible opens greatest previous i it part row
+        → last ≡ summed_last ladder (take i entries) it (drop (i + 1) entries) → part ≡ part_in ladder (take i entries) it (drop (i + 1) entries)
+        → PutsRowsBefore ladder possible (take i entries) (drop i entries) a b → IsEntryOf ladder possible opens greatest previous i it last part row
         → Writes b c (html_of row) → PutsRowsBefore ladder possible (take (i + 1) entries) (drop (i + 1) entries) a c
-    next_rows {W} {sink} {a} {b} {c} law known is puts shows put =
+    next_rows {W} {sink} {a} {b} {c} law known to is puts shows put =
         let are : AreRowsBefore ladder possible (take i entries) (it ∷ drop (i + 1) entries) puts.0 =
         subst (λ (es : List Entry). AreRowsBefore ladder possible (take i entries) es puts.0) (rest_here entries i d within) puts.1 in (
           puts.0 ++ row,
           subst (λ (es : List Entry). AreRowsBefore ladder possible es (drop (i + 1) entries) (puts.0 ++ row)) (sym (take_more entries i d within))
-              (one_row ladder possible [] (take i entries) (drop (i + 1) entries) it puts.0 row are (next_row known is shows)),
+              (one_row ladder possible [] (take i entries) (drop (i + 1) entries) it puts.0 row are (next_row known to is shows)),
           together puts.0 row (and_then law puts.2 put),
         )
 

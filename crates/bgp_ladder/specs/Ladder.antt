@@ -1,6 +1,7 @@
 -- A ladder: a row a record.
 use Rattle.std.specs.Prelude.{◌≡◌, ◌<◌, ◌++◌, ◌+◌, ◌-◌, ◌*◌, ◌/◌, ◌%◌, ◌==◌, ℕ, List, [], ◌∷◌}
-use Rattle.std.specs.Prelude.{Option, None, Some, codes, if◌then◌else◌, length, nat_lt, reverse}
+use Rattle.std.specs.Prelude.{Option, None, Some, codes, get_or, if◌then◌else◌, length, nat_lt}
+use Rattle.std.specs.Prelude.{reverse}
 use Rattle.std.specs.List.{last_or}
 use Rattle.std.specs.Fmt.{decimal}
 use Rattle.bgp_prefix.specs.Shown.{ShownRecord, Received as In, Sent as Out, Changed}
@@ -20,27 +21,25 @@ use Rattle.bgp_recording.specs.declared.entry.Entry.{Entry}
 use Rattle.bgp_values.specs.Opens.{AreOpens}
 use Rattle.bgp_values.specs.declared.opens.Opens.{Opens}
 use Rattle.bgp_ladder.specs.Deed.{IsDeedBy}
+use Rattle.bgp_ladder.specs.Numbering.{blank_cells, counted_heads, first_number, last_number}
+use Rattle.bgp_ladder.specs.Numbering.{number_cells}
 use Rattle.bgp_ladder.specs.Possible.{behind_pieces, last_pieces}
 use Rattle.bgp_ladder.specs.Runs.{part_of, run_before, run_behind, type_of}
+use Rattle.bgp_ladder.specs.declared.numbering.Numbering.{Numbering}
 use Rattle.bgp_ladder.specs.declared.rows.Ladder.{Ladder}
 use Rattle.bgp_ladder.specs.declared.runs.Part.{Part}
 use Rattle.bgp_ladder.specs.declared.runs.Part.TheVariants as parts
 
 -- ---- the head
 
-abbrev pub counted_heads : List Piece
-counted_heads =
-    Words (codes "time") ∷ Markup tags.Head ∷ Words (codes "packet") ∷ Markup tags.Head
-    ∷ Words (codes "record") ∷ Markup tags.Head ∷ []
-
 abbrev pub end_heads : List ℕ → List ℕ → List Piece
 end_heads left right =
     Words left ∷ Markup tags.Head ∷ Markup tags.Head ∷ Words right ∷ Markup tags.HeadEnd ∷ []
 
-abbrev pub head_pieces : Column → List ℕ → List ℕ → List ℕ → List Piece
-head_pieces column caption left right =
+abbrev pub head_pieces : Column → Numbering → List ℕ → List ℕ → List ℕ → List Piece
+head_pieces column numbering caption left right =
     Markup (tags.Ladder column) ∷ Words caption ∷ Markup tags.CaptionEnd
-    ∷ (counted_heads ++ end_heads left right)
+    ∷ (counted_heads numbering ++ end_heads left right)
 
 -- ---- a row
 
@@ -120,18 +119,13 @@ deed_pieces column (In second octets) text = message_pieces text
 deed_pieces column (Out second octets) text = message_pieces text
 deed_pieces column (Changed second old new) text = change_pieces column text
 
--- the number of its packet and its own
-abbrev pub number_pieces : ℕ → ℕ → List Piece
-number_pieces packet number =
-    Markup tags.Cell ∷ Words (decimal packet) ∷ Markup tags.Cell ∷ Words (decimal number) ∷ []
-
--- what stands before that: its number is counted from 0 on, and shown from 1 on
+-- what stands before that
 abbrev pub front_pieces : Ladder → ℕ → Option Entry → ℕ → Entry → List Piece
 front_pieces ladder greatest previous number entry =
     Markup (tags.Row (what_of ladder.column (shown_of entry.record))
     (mark_at ladder.impossible number))
     ∷ Words (time_words ladder greatest previous entry)
-    ∷ number_pieces entry.packet (number + 1)
+    ∷ number_cells ladder.numbering number entry
 
 abbrev pub row_pieces : Ladder → ℕ → Option Entry → ℕ → Entry → List ℕ → List Piece
 row_pieces ladder greatest previous number entry text =
@@ -166,11 +160,14 @@ number_words first last =
     Words (codes ", records ") ∷ Words (decimal first) ∷ Words (codes " to ")
     ∷ Words (decimal last) ∷ Markup tags.MessageEnd ∷ []
 
-abbrev pub sum_pieces : Ladder → ℕ → ℕ → ShownRecord → List Piece
-sum_pieces ladder number count shown =
-    Markup (tags.Row whats.Run (mark_at ladder.impossible number)) ∷ Markup tags.Cell
-    ∷ Markup tags.Cell ∷ Markup tags.Message
-    ∷ (count_pieces count shown ++ number_words (number + 1) (number + count))
+-- so many records from this one, whose number counts from 0 on, to that one
+abbrev pub sum_pieces : Ladder → ℕ → ℕ → Entry → Entry → List Piece
+sum_pieces ladder number count entry last =
+    Markup (tags.Row whats.Run (mark_at ladder.impossible number))
+    ∷ (blank_cells ladder.numbering ++ (Markup tags.Message
+    ∷ (count_pieces count (shown_of entry.record)
+    ++ number_words (first_number ladder.numbering number entry)
+    (last_number ladder.numbering number count last))))
 
 -- ---- the rows
 
@@ -181,9 +178,10 @@ before_in before (entry ∷ entries) =
     before_in (before_behind (shown_of entry.record) before) entries
 
 -- What stands for an entry, by how it does in the ladder, where these were the last OPENs: the
--- entry before it, the greatest packet so far and its number are given.
+-- entry before it, the greatest packet so far, its number, and the last one that its row would sum
+-- up with it are given.
 module _ (ladder : Ladder) (opens : Opens) (greatest : ℕ) (previous : Option Entry) (number : ℕ)
-    (entry : Entry) where
+    (entry last : Entry) where
   -- a row of its own, behind that of another entry or of none
   abbrev pub IsOwnRow : Option Entry → List Piece → Type 0
   IsOwnRow shown row =
@@ -193,15 +191,16 @@ module _ (ladder : Ladder) (opens : Opens) (greatest : ℕ) (previous : Option E
   abbrev pub IsRowOf : Part → List Piece → Type 0
   IsRowOf parts.Own row = IsOwnRow previous row
   IsRowOf parts.Last row = IsOwnRow None row
-  IsRowOf (parts.Sum count) row = row ≡ sum_pieces ladder number count (shown_of entry.record)
+  IsRowOf (parts.Sum count) row = row ≡ sum_pieces ladder number count entry last
   IsRowOf parts.Summed row = row ≡ []
 
--- behind that of the no what could have come in its place: the lines of this text say it
-abbrev pub IsEntryOf : Ladder → List ℕ → Opens → ℕ → Option Entry → ℕ → Entry → Part → List Piece
-    → Type 0
-IsEntryOf ladder possible opens greatest previous number entry part row =
-    (own : List Piece) × IsRowOf ladder opens greatest previous number entry part own
-    × (row ≡ own ++ behind_pieces ladder.impossible possible number)
+-- If the lines of this text are about its record, what could have come in its place stands behind
+-- it.
+abbrev pub IsEntryOf : Ladder → List ℕ → Opens → ℕ → Option Entry → ℕ → Entry → Entry → Part
+    → List Piece → Type 0
+IsEntryOf ladder possible opens greatest previous number entry last part row =
+    (own : List Piece) × IsRowOf ladder opens greatest previous number entry last part own
+    × (row ≡ own ++ behind_pieces ladder possible number)
 
 -- the numbers of the entries that one sums up are no greater than a machine's
 abbrev pub LastWithin : ℕ → ℕ → Part → Type 0
@@ -211,10 +210,16 @@ LastWithin most number (parts.Sum count) = number + count < most
 LastWithin most number parts.Summed = Unit {0}
 
 -- the part of an entry behind these and before those
-abbrev pub part_in : Option ℕ → List Entry → Entry → List Entry → Part
-part_in mark earlier entry later =
-    part_of (run_before mark (shown_of entry.record) (reverse earlier))
-    (run_behind mark (length earlier) (shown_of entry.record) later)
+abbrev pub part_in : Ladder → List Entry → Entry → List Entry → Part
+part_in ladder earlier entry later =
+    part_of (run_before ladder (shown_of entry.record) (reverse earlier))
+    (run_behind ladder (length earlier) (shown_of entry.record) later)
+
+-- the last but one of its run, if there are two: the last one that a row of its middle sums up
+abbrev pub summed_last : Ladder → List Entry → Entry → List Entry → Entry
+summed_last ladder earlier entry later =
+    get_or (entry ∷ later)
+    (run_behind ladder (length earlier) (shown_of entry.record) later - 1) entry
 
 -- what stands for it
 abbrev pub IsRow : Ladder → List ℕ → List Entry → Entry → List Entry → List Piece → Type 0
@@ -223,7 +228,8 @@ IsRow ladder possible earlier entry later row =
     × AreOpens (before_in nothing_before earlier).received (before_in nothing_before earlier).sent
     opens
     × IsEntryOf ladder possible opens (greatest_in 0 earlier) (last_or None earlier)
-    (length earlier) entry (part_in ladder.impossible earlier entry later) row
+    (length earlier) entry (summed_last ladder earlier entry later)
+    (part_in ladder earlier entry later) row
 
 -- the rows of entries behind these and before those, one after another
 abbrev pub AreRowsBetween : Ladder → List ℕ → List Entry → List Entry → List Entry → List Piece
@@ -246,11 +252,12 @@ PutsRowsBefore ladder possible entries later old new =
     (pieces : List Piece) × AreRowsBefore ladder possible entries later pieces
     × Writes old new (html_of pieces)
 
--- those of all of them; if there is no no, what could have come next stands behind them
+-- those of all of them; what could have come next stands behind them, if the lines are about none
+-- of them
 abbrev pub AreRows : Ladder → List ℕ → List Entry → List Piece → Type 0
 AreRows ladder possible entries pieces =
     (rows : List Piece) × AreRowsBefore ladder possible entries [] rows
-    × (pieces ≡ rows ++ last_pieces ladder.impossible possible)
+    × (pieces ≡ rows ++ last_pieces ladder possible)
 
 abbrev pub PutsRows : {W : Type 0} {sink : sinks.Ghosts W} → Ladder → List ℕ → List Entry
     → Lines W sink → Lines W sink → Type 0

@@ -4,6 +4,7 @@ use Rattle.std.specs.Prelude.{if◌then◌else◌, length, nat_le, nat_lt, slice
 use Rattle.bgp_prefix.specs.Shown.{ShownRecord, Received as In, Sent as Out, Changed}
 use Rattle.mrt.specs.Reader.{shown_of}
 use Rattle.bgp_recording.specs.declared.entry.Entry.{Entry}
+use Rattle.bgp_ladder.specs.declared.rows.Ladder.{Ladder}
 use Rattle.bgp_ladder.specs.declared.runs.Part.{Part}
 use Rattle.bgp_ladder.specs.declared.runs.Part.TheVariants as parts
 use Rattle.bgp_ladder.specs.declared.runs.Run.{Run}
@@ -28,29 +29,33 @@ are_alike (In second octets) next = is_received (type_of octets) next
 are_alike (Out second octets) next = is_sent (type_of octets) next
 are_alike (Changed second old new) next = false
 
--- the record with this number, from 0 on, is that of the no
+-- the record with this number, from 0 on, is the one at this place
 abbrev pub is_marked : Option ℕ → ℕ → Bool
 is_marked None number = false
 is_marked (Some place) number = number == place
 
--- a record with this number and the next belong to one run: the no stands at neither
-abbrev pub are_linked : Option ℕ → ℕ → ShownRecord → ShownRecord → Bool
-are_linked mark number shown next =
-    if is_marked mark number || is_marked mark (number + 1) then false else are_alike shown next
+-- it belongs to no run: it is that of the no, or the one that the lines are about
+abbrev pub is_apart : Ladder → ℕ → Bool
+is_apart ladder number = is_marked ladder.impossible number || is_marked ladder.asked number
+
+-- a record with this number and the next belong to one run
+abbrev pub are_linked : Ladder → ℕ → ShownRecord → ShownRecord → Bool
+are_linked ladder number shown next =
+    if is_apart ladder number || is_apart ladder (number + 1) then false else are_alike shown next
 
 -- how many of these belong to the run of the record with this number, which stands before them
-abbrev pub run_behind : Option ℕ → ℕ → ShownRecord → List Entry → ℕ
-run_behind mark number shown [] = 0
-run_behind mark number shown (next ∷ entries) =
-    if are_linked mark number shown (shown_of next.record)
-    then run_behind mark (number + 1) (shown_of next.record) entries + 1 else 0
+abbrev pub run_behind : Ladder → ℕ → ShownRecord → List Entry → ℕ
+run_behind ladder number shown [] = 0
+run_behind ladder number shown (next ∷ entries) =
+    if are_linked ladder number shown (shown_of next.record)
+    then run_behind ladder (number + 1) (shown_of next.record) entries + 1 else 0
 
 -- how many of these belong to the run of the record behind them: the last of them stands first
-abbrev pub run_before : Option ℕ → ShownRecord → List Entry → ℕ
-run_before mark shown [] = 0
-run_before mark shown (previous ∷ earlier) =
-    if are_linked mark (length earlier) (shown_of previous.record) shown
-    then run_before mark (shown_of previous.record) earlier + 1 else 0
+abbrev pub run_before : Ladder → ShownRecord → List Entry → ℕ
+run_before ladder shown [] = 0
+run_before ladder shown (previous ∷ earlier) =
+    if are_linked ladder (length earlier) (shown_of previous.record) shown
+    then run_before ladder (shown_of previous.record) earlier + 1 else 0
 
 -- How a record stands in a ladder, if so many of its run stand before it and so many behind it: of
 -- a run of more than 40 the first and the last have a row of their own, and those between them one
@@ -64,13 +69,13 @@ part_of before behind =
 
 -- ---- the run of the last of these entries, of which the last stands first, before those
 
-abbrev pub IsRun : Option ℕ → List Entry → List Entry → Run → Type 0
-IsRun mark [] later run = run.behind ≡ 0
-IsRun mark (entry ∷ earlier) later run =
-    (run.behind ≡ run_behind mark (length earlier) (shown_of entry.record) later)
-    × (run.length ≡ run_before mark (shown_of entry.record) earlier + 1 + run.behind)
+abbrev pub IsRun : Ladder → List Entry → List Entry → Run → Type 0
+IsRun ladder [] later run = run.behind ≡ 0
+IsRun ladder (entry ∷ earlier) later run =
+    (run.behind ≡ run_behind ladder (length earlier) (shown_of entry.record) later)
+    × (run.length ≡ run_before ladder (shown_of entry.record) earlier + 1 + run.behind)
 
 -- that of the first of these
-abbrev pub run_at : Option ℕ → ℕ → List Entry → ℕ
-run_at mark number [] = 0
-run_at mark number (entry ∷ entries) = run_behind mark number (shown_of entry.record) entries
+abbrev pub run_at : Ladder → ℕ → List Entry → ℕ
+run_at ladder number [] = 0
+run_at ladder number (entry ∷ entries) = run_behind ladder number (shown_of entry.record) entries

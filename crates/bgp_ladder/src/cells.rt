@@ -1,16 +1,15 @@
-//! The first cells of a row: the time, the packet and the number of its record.
+//! The first cell of a row: its time.
 
 ghost use Rattle.std.specs.Prelude.{◌≡◌, ◌+◌, ◌%◌, ◌++◌, codes};
 ghost use Rattle.std.specs.Fmt.{decimal};
 ghost use Rattle.bgp_text.specs.Lines.{Writes};
 ghost use Rattle.bgp_html.specs.Escaped.{escaped};
-ghost use Rattle.bgp_html.specs.Pieces.{html_of};
 ghost use Rattle.bgp_ladder.specs.Ladder.{elapsed_words, fraction_words, micros_between};
-ghost use Rattle.bgp_ladder.specs.Ladder.{number_pieces, precise_words, time_after, time_behind};
-ghost use Rattle.bgp_ladder.specs.Ladder.{time_words, whole_words};
+ghost use Rattle.bgp_ladder.specs.Ladder.{precise_words, time_after, time_behind, time_words};
+ghost use Rattle.bgp_ladder.specs.Ladder.{whole_words};
 
 use crate::rows::Ladder;
-use bgp_html::{Tag, put_escaped, put_tag};
+use bgp_html::put_escaped;
 use bgp_prefix::Seconds;
 use bgp_recording::Entry;
 use bgp_text::Lines;
@@ -145,14 +144,4 @@ pub(crate) fn put_time<W: Sink>(
     } else {
         put_time_after(lines, ladder, previous, entry);
     }
-}
-
-/// Puts the number of a packet and of a record, each in a cell of its own.
-pub(crate) fn put_numbers<W: Sink>(lines: &mut Lines<'_, W>, packet: u64, number: u64)
-    ensures { Writes lines.old lines.new (html_of (number_pieces packet number)) }
-{
-    put_tag(lines, Tag::Cell);
-    put_number(lines, packet);
-    put_tag(lines, Tag::Cell);
-    put_number(lines, number);
 }

@@ -15,9 +15,10 @@ ghost use Rattle.bgp_ladder.specs.Ladder.{mark_at};
 ghost use Rattle.bgp_ladder.specs.Ladder.{message_pieces, row_pieces, what_of};
 
 use crate::batch::{Batch, filled};
-use crate::cells::{put_numbers, put_time};
+use crate::cells::put_time;
+use crate::numbering::{Numbering, put_numbers};
 use crate::possible::{put_behind, put_last};
-use crate::runs::{Part, Run, next_run, part_of, type_of};
+use crate::runs::{Part, Run, next_run, part_of, summed_last, type_of};
 use crate::sums::put_sum;
 use bgp_html::{Column, Mark, Tag, What, put_escaped, put_tag};
 use bgp_prefix::Seconds;
@@ -41,8 +42,13 @@ pub struct Ladder {
     pub micro: Option<u32>,
     /// How both directions are framed: a longer message has a faulty header.
     pub framings: Framings,
+    /// How its records are numbered.
+    pub numbering: Numbering,
     /// The record at which a no stands, counted from 0, if there is one.
     pub impossible: Option<usize>,
+    /// The record that the lines on what could have come are about, counted from 0: that of the no,
+    /// unless the no is about all orders. If there is none, they are about what could come next.
+    pub asked: Option<usize>,
 }
 
 /// What is known of the entries before one.
@@ -98,7 +104,7 @@ fn put_front<W: Sink>(
     let what = what_of(ladder.column, &entry.record);
     put_tag(lines, Tag::Row(what, mark_at(ladder.impossible, number)));
     put_time(lines, ladder, before.greatest, before.previous, entry);
-    put_numbers(lines, entry.packet, number as u64 + 1);
+    put_numbers(lines, ladder.numbering, number, entry);
 }
 
 /// Puts a message that says this, and the end of its row.
@@ -148,13 +154,15 @@ fn put_row<W: Sink>(
     put_shown(lines, ladder.column, &entry.record, text);
 }
 
-/// Puts what stands for an entry behind these, by how it does, with what it shows.
+/// Puts what stands for an entry behind these, by how it does, with what it shows. A row that sums
+/// it up with others goes to the last of them.
 fn put_part<W: Sink>(
     lines: &mut Lines<'_, W>,
     ladder: &Ladder,
     before: &Before<'_>,
     number: usize,
     entry: &Entry<'_>,
+    last: &Entry<'_>,
     part: Part,
     text: &[u8],
 )
@@ -163,7 +171,7 @@ fn put_part<W: Sink>(
     ensures { (opens : Opens)
         → IsShownBy ladder.now.framings opens (shown_of entry.now.record) part text.now
         → (row : List Piece) × IsRowOf ladder.now opens before.now.greatest before.now.previous
-        number entry.now part row × Writes lines.old lines.new (html_of row) }
+        number entry.now last.now part row × Writes lines.old lines.new (html_of row) }
 {
     match part {
         Part::Own => put_row(lines, ladder, before, number, entry, text),
@@ -174,13 +182,13 @@ fn put_part<W: Sink>(
             };
             put_row(lines, ladder, &behind_sum, number, entry, text);
         }
-        Part::Sum(count) => put_sum(lines, ladder, number, count, &entry.record),
+        Part::Sum(count) => put_sum(lines, ladder, number, count, entry, last),
         Part::Summed => {}
     }
 }
 
-/// Puts what stands for an entry behind these, by how it does, with what it shows; behind that of
-/// the no what could have come in its place.
+/// Puts what stands for an entry behind these, by how it does, with what it shows. If the lines are
+/// about its record, what could have come in its place stands behind it.
 fn put_entry<W: Sink>(
     lines: &mut Lines<'_, W>,
     ladder: &Ladder,
@@ -188,6 +196,7 @@ fn put_entry<W: Sink>(
     before: &Before<'_>,
     number: usize,
     entry: &Entry<'_>,
+    last: &Entry<'_>,
     part: Part,
     text: &[u8],
 )
@@ -196,9 +205,10 @@ fn put_entry<W: Sink>(
     ensures { (opens : Opens)
         → IsShownBy ladder.now.framings opens (shown_of entry.now.record) part text.now
         → (row : List Piece) × IsEntryOf ladder.now possible.now opens before.now.greatest
-        before.now.previous number entry.now part row × Writes lines.old lines.new (html_of row) }
+        before.now.previous number entry.now last.now part row
+        × Writes lines.old lines.new (html_of row) }
 {
-    put_part(lines, ladder, before, number, entry, part, text);
+    put_part(lines, ladder, before, number, entry, last, part, text);
     put_behind(lines, ladder, possible, number);
 }
 
@@ -241,7 +251,8 @@ fn behind<'a>(before: Before<'a>, entry: &Entry<'a>) -> Before<'a>
     }
 }
 
-/// Puts the rows of these entries, and behind that of the no what could have come in its place.
+/// Puts the rows of these entries, and what could have come behind the row of the record that the
+/// lines are about.
 fn put_all<A: Allocator + Copy, W: Sink>(
     alloc: A,
     lines: &mut Lines<'_, W>,
@@ -266,13 +277,16 @@ fn put_all<A: Allocator + Copy, W: Sink>(
     let mut batch = Batch::none(alloc);
     for number in 0..entries.len() {
         let entry = &entries[number];
-        run = next_run(ladder.impossible, entries, number, run);
+        run = next_run(ladder, entries, number, run);
         let part = part_of(run);
         let rest = entries.split_at(number).1;
         batch = filled(alloc, batch, &opens, ladder.framings, rest, part)?;
         let end = batch.end();
         let text = batch.words(end);
-        put_entry(lines, ladder, possible, &before, number, entry, part, text);
+        let last = summed_last(entries, number, run);
+        put_entry(
+            lines, ladder, possible, &before, number, entry, last, part, text,
+        );
         batch.pass(end);
         take_shown(&mut opens, &entry.record);
         before = behind(before, entry);
@@ -280,14 +294,15 @@ fn put_all<A: Allocator + Copy, W: Sink>(
     Ok(())
 }
 
-/// Puts the rows of these entries, one after another, each with its packet, its number from 1 on
-/// and what it shows: a message as `bgp decode --names` prints it, with what the OPENs before it
-/// settle. The record at which a no stands is marked, and those behind it are. If more than 40
-/// messages of one direction and type follow one another, and the no stands at none of them, one
-/// row sums up those between the first and the last.
+/// Puts the rows of these entries, one after another, each with its number and what it shows: a
+/// message as `bgp decode --names` prints it, with what the OPENs before it settle. In a recording
+/// the number counts from 1 on, and the packet stands before it; in a capture it is that of the
+/// session. The record at which a no stands is marked, and those behind it are. If more than 40
+/// messages of one direction and type follow one another, and neither the no stands at one of them
+/// nor are the lines about one, one row sums up those between the first and the last.
 ///
-/// The lines of a text say what could have come in place of the no's record, or after all records
-/// if there is no no: each has a row there.
+/// The lines of a text say what could have come in place of a record, or after all of them: each
+/// has a row there.
 ///
 /// If memory is refused for a row, those before it are put, and nothing of it.
 pub fn put_rows<A: Allocator + Copy, W: Sink>(

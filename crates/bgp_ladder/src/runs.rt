@@ -1,10 +1,12 @@
 //! Runs of messages alike.
 
-ghost use Rattle.std.specs.Prelude.{◌≡◌, ◌+◌, ◌<◌, ℕ, drop, length, reverse, take};
+ghost use Rattle.std.specs.Prelude.{◌≡◌, ◌+◌, ◌-◌, ◌<◌, ℕ, drop, get_or, length, reverse, take};
 ghost use Rattle.mrt.specs.Reader.{shown_of};
-ghost use Rattle.bgp_ladder.specs.Runs.{IsRun, are_alike, are_linked, is_marked, is_received};
-ghost use Rattle.bgp_ladder.specs.Runs.{is_sent, part_of, run_at, type_of};
+ghost use Rattle.bgp_recording.specs.declared.entry.Entry.{Entry as E};
+ghost use Rattle.bgp_ladder.specs.Runs.{IsRun, are_alike, are_linked, is_apart, is_marked};
+ghost use Rattle.bgp_ladder.specs.Runs.{is_received, is_sent, part_of, run_at, type_of};
 
+use crate::rows::Ladder;
 use bgp_recording::Entry;
 use mrt::Record;
 
@@ -73,27 +75,30 @@ fn are_alike(shown: &Record<'_>, next: &Record<'_>) -> bool
     }
 }
 
-/// Checks whether the record with this number is that of the no.
-pub(crate) fn is_marked(impossible: Option<usize>, number: usize) -> bool
-    ensures { result ≡ is_marked impossible number }
+/// Checks whether the record with this number is the one at this place.
+pub(crate) fn is_marked(place: Option<usize>, number: usize) -> bool
+    ensures { result ≡ is_marked place number }
 {
-    match impossible {
+    match place {
         None => false,
-        Some(no) => number == no,
+        Some(place) => number == place,
     }
 }
 
-/// Checks whether the record with this number and the next belong to one run.
-fn are_linked(
-    impossible: Option<usize>,
-    number: usize,
-    shown: &Record<'_>,
-    next: &Record<'_>,
-) -> bool
-    requires { number < u64.MAX }
-    ensures { result ≡ are_linked impossible number (shown_of shown.now) (shown_of next.now) }
+/// Checks whether the record with this number belongs to no run: it is that of the no, or the lines
+/// are about it.
+fn is_apart(ladder: &Ladder, number: usize) -> bool
+    ensures { result ≡ is_apart ladder.now number }
 {
-    if is_marked(impossible, number) || is_marked(impossible, number + 1) {
+    is_marked(ladder.impossible, number) || is_marked(ladder.asked, number)
+}
+
+/// Checks whether the record with this number and the next belong to one run.
+fn are_linked(ladder: &Ladder, number: usize, shown: &Record<'_>, next: &Record<'_>) -> bool
+    requires { number < u64.MAX }
+    ensures { result ≡ are_linked ladder.now number (shown_of shown.now) (shown_of next.now) }
+{
+    if is_apart(ladder, number) || is_apart(ladder, number + 1) {
         false
     } else {
         are_alike(shown, next)
@@ -101,16 +106,16 @@ fn are_linked(
 }
 
 /// Returns how many of the records behind the one with this number belong to its run.
-fn run_behind(impossible: Option<usize>, entries: &[Entry<'_>], number: usize) -> usize
+fn run_behind(ladder: &Ladder, entries: &[Entry<'_>], number: usize) -> usize
     requires { number < length entries.now }
     ensures within { number + result < length entries.now }
-    ensures run { result ≡ run_at impossible number (drop number entries.now) }
+    ensures run { result ≡ run_at ladder.now number (drop number entries.now) }
 {
     let most = entries.len() - number - 1;
     for count in 0..most {
         let last = number + count;
         let next = &entries[last + 1];
-        if !are_linked(impossible, last, &entries[last].record, &next.record) {
+        if !are_linked(ladder, last, &entries[last].record, &next.record) {
             return count;
         }
     }
@@ -118,16 +123,11 @@ fn run_behind(impossible: Option<usize>, entries: &[Entry<'_>], number: usize) -
 }
 
 /// Returns the run of the record with this number, behind one of this run.
-pub(crate) fn next_run(
-    impossible: Option<usize>,
-    entries: &[Entry<'_>],
-    number: usize,
-    run: Run,
-) -> Run
+pub(crate) fn next_run(ladder: &Ladder, entries: &[Entry<'_>], number: usize, run: Run) -> Run
     requires within { number < length entries.now }
-    requires run { IsRun impossible (reverse (take number entries.now)) (drop number entries.now)
+    requires run { IsRun ladder.now (reverse (take number entries.now)) (drop number entries.now)
         run }
-    ensures { IsRun impossible (reverse (take (number + 1) entries.now))
+    ensures { IsRun ladder.now (reverse (take (number + 1) entries.now))
         (drop (number + 1) entries.now) result }
 {
     if 0 < run.behind {
@@ -136,12 +136,25 @@ pub(crate) fn next_run(
             behind: run.behind - 1,
         }
     } else {
-        let behind = run_behind(impossible, entries, number);
+        let behind = run_behind(ladder, entries, number);
         Run {
             length: behind + 1,
             behind,
         }
     }
+}
+
+/// Returns the last but one of a run, of which a record with this number is one; that record, if
+/// none is behind it.
+pub(crate) fn summed_last<'a, 'b>(
+    entries: &'b [Entry<'a>],
+    number: usize,
+    run: Run,
+) -> &'b Entry<'a>
+    requires { number + run.behind < length entries.now }
+    ensures { (d : E) → result.now ≡ get_or entries.now (number + (run.behind - 1)) d }
+{
+    &entries[number + run.behind.saturating_sub(1)]
 }
 
 /// Returns how a record of a run stands in a ladder.

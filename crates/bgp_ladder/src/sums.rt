@@ -9,9 +9,11 @@ ghost use Rattle.bgp_ladder.specs.Ladder.{count_pieces, kind_pieces, kind_words,
 ghost use Rattle.bgp_ladder.specs.Ladder.{sum_pieces, type_words};
 
 use crate::cells::put_number;
+use crate::numbering::{first_number, last_number, put_blanks};
 use crate::rows::{Ladder, mark_at};
 use crate::runs::type_of;
 use bgp_html::{Tag, What, put_escaped, put_tag};
+use bgp_recording::Entry;
 use bgp_text::Lines;
 use mrt::{Record, Sink};
 
@@ -68,26 +70,31 @@ fn put_their_numbers<W: Sink>(lines: &mut Lines<'_, W>, first: u64, last: u64)
     put_tag(lines, Tag::MessageEnd);
 }
 
-/// Puts the row of so many records, of which the first has this number and shows this.
+/// Puts the row of so many records, from an entry with this number to that one.
 pub(crate) fn put_sum<W: Sink>(
     lines: &mut Lines<'_, W>,
     ladder: &Ladder,
     number: usize,
     count: usize,
-    shown: &Record<'_>,
+    entry: &Entry<'_>,
+    last: &Entry<'_>,
 )
     requires first { number < u64.MAX }
     requires last { number + count < u64.MAX }
     ensures { Writes lines.old lines.new
-        (html_of (sum_pieces ladder.now number count (shown_of shown.now))) }
+        (html_of (sum_pieces ladder.now number count entry.now last.now)) }
 {
     put_tag(
         lines,
         Tag::Row(What::Run, mark_at(ladder.impossible, number)),
     );
-    put_tag(lines, Tag::Cell);
-    put_tag(lines, Tag::Cell);
+    put_blanks(lines, ladder.numbering);
     put_tag(lines, Tag::Message);
-    put_count(lines, count, shown);
-    put_their_numbers(lines, number as u64 + 1, (number + count) as u64);
+    put_count(lines, count, &entry.record);
+    let from = first_number(ladder.numbering, number, entry);
+    put_their_numbers(
+        lines,
+        from,
+        last_number(ladder.numbering, number, count, last),
+    );
 }

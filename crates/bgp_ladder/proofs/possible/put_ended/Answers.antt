@@ -6,11 +6,11 @@ use Rattle.bgp_ladder.proofs.possible.put_ended.Goals as goal
 
 pub returns-then-text-place-eq10-clause-puts : goal.returns-then-text-place-eq10-clause-puts
 returns-then-text-place-eq10-clause-puts g c =
-    (possible_row (take (c.args.place - c.args.first) (drop c.args.first c.args.text.now)), c.put_possible_row.ensures, line_ends c.args.text.now c.args.first c.args.place c.requires.place c.requires.first c.if-text-place-eq10.true)
+    (possible_row c.args.numbering (take (c.args.place - c.args.first) (drop c.args.first c.args.text.now)), c.put_possible_row.ensures, line_ends c.args.numbering c.args.text.now c.args.first c.args.place c.requires.place c.requires.first c.if-text-place-eq10.true)
 
 pub returns-else-text-place-eq10-clause-puts : goal.returns-else-text-place-eq10-clause-puts
 returns-else-text-place-eq10-clause-puts g c = (
   [],
   nothing_yet g.W.Sink g.met.W.Sink.nothing c.args.lines.now.outlet c.args.lines.now.held.items,
-  line_goes_on c.args.text.now c.args.first c.args.place c.requires.place c.requires.first c.if-text-place-eq10.false,
+  line_goes_on c.args.numbering c.args.text.now c.args.first c.args.place c.requires.place c.requires.first c.if-text-place-eq10.false,
 )

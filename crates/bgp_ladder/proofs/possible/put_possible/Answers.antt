@@ -28,4 +28,4 @@ loop-place-preserved g c =
 pub returns : goal.returns
 returns g c =
     let (before, rows, put, is) = c.loop-place.invariant in
-    subst (λ (ps : List Piece). Writes c.args.lines.now c.loop-place.lines (html_of ps)) (none_left c.args.text.now _ c.loop-place.place rows _ c.loop-place-test.false is) put
+    subst (λ (ps : List Piece). Writes c.args.lines.now c.loop-place.lines (html_of ps)) (none_left c.args.numbering c.args.text.now _ c.loop-place.place rows _ c.loop-place-test.false is) put

@@ -9,4 +9,4 @@ abbrev pub invariant-loop-place : goal.invariant-loop-place
 invariant-loop-place g l =
     (l.first ≤ l.place)
     × (rows : List Piece) × Writes l.fn.lines l.lines (html_of rows)
-    × (rows ++ rows_from (take (l.place - l.first) (drop l.first l.text)) (drop l.place l.text) ≡ possible_rows l.text)
+    × (rows ++ rows_from l.numbering (take (l.place - l.first) (drop l.first l.text)) (drop l.place l.text) ≡ possible_rows l.numbering l.text)

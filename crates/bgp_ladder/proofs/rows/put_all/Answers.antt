@@ -5,7 +5,7 @@ use Rattle.bgp_recording.specs.declared.entry.Entry.{Entry}
 use Rattle.bgp_ladder.specs.Batch.{IsBatch, first_end}
 use Rattle.bgp_ladder.specs.Ladder.{before_in}
 use Rattle.bgp_ladder.proofs.InRuns.{is_whole, is_within, last_within, rest_here, some_of}
-use Rattle.bgp_ladder.proofs.OneRow.{its_part, next_before, next_known, next_rows}
+use Rattle.bgp_ladder.proofs.OneRow.{its_last, its_part, next_before, next_known, next_rows}
 use Rattle.bgp_ladder.proofs.Words.{goes, holds_none, passed, shown_with}
 use Rattle.bgp_ladder.proofs.rows.put_all.Goals as goal
 
@@ -14,8 +14,15 @@ part_of-part-requires g c =
     let entries = c.args.entries.now in
     let i = c.loop-number.number in
     let within : i < length entries = c.loop-number-test.true in
-    let whole = is_whole c.args.ladder.now.impossible entries i (some_of entries i within) within c.next_run-run.result c.next_run-run.ensures in
+    let whole = is_whole c.args.ladder.now entries i (some_of entries i within) within c.next_run-run.result c.next_run-run.ensures in
     omega (arith, whole)
+
+pub summed_last-last-requires : goal.summed_last-last-requires
+summed_last-last-requires g c =
+    let entries = c.args.entries.now in
+    let i = c.loop-number.number in
+    let within : i < length entries = c.loop-number-test.true in
+    is_within c.args.ladder.now entries i (some_of entries i within) within c.next_run-run.result c.next_run-run.ensures
 
 pub put_entry-requires-clause-last : goal.put_entry-requires-clause-last
 put_entry-requires-clause-last g c =
@@ -23,8 +30,8 @@ put_entry-requires-clause-last g c =
     let entries = c.args.entries.now in
     let i = c.loop-number.number in
     let within : i < length entries = c.loop-number-test.true in
-    let most = is_within c.args.ladder.now.impossible entries i (some_of entries i within) within c.next_run-run.result c.next_run-run.ensures in
-    rw (c.part_of-part.ensures _ (is_whole c.args.ladder.now.impossible entries i (some_of entries i within) within c.next_run-run.result c.next_run-run.ensures))
+    let most = is_within c.args.ladder.now entries i (some_of entries i within) within c.next_run-run.result c.next_run-run.ensures in
+    rw (c.part_of-part.ensures _ (is_whole c.args.ladder.now entries i (some_of entries i within) within c.next_run-run.result c.next_run-run.ensures))
     (last_within _ i _ c.next_run-run.result.behind (search (rules, most)))
 
 pub loop-number-init : goal.loop-number-init
@@ -49,6 +56,7 @@ loop-number-preserved g c =
     let new = c.in_ok-batch.batch in
     let rest = drop new.at new.octets.items in
     let part = its_part ladder c.args.possible.now entries i _ within c.next_run-run.result c.part_of-part.result c.next_run-run.ensures c.part_of-part.ensures in
+    let last = its_last ladder c.args.possible.now entries i _ within c.next_run-run.result c.summed_last-last.result.now c.next_run-run.ensures c.summed_last-last.ensures in
     let filled = c.in_ok-batch.ensures.holds messages known.opened
     (subst (λ (es : List Entry). IsBatch ladder.framings messages es c.loop-number.batch.left (drop c.loop-number.batch.at c.loop-number.batch.octets.items))
     (sym c.split_at.ensures.back) batch) in
@@ -59,8 +67,8 @@ loop-number-preserved g c =
     let count : c.end-end.result - new.at ≡ first_end new.left rest = omega (arith, ends) in
     let words : c.words-text.result.now ≡ take (first_end new.left rest) rest = c.words-text.ensures ∙ ap (λ (n : ℕ). take n rest) count in
     let shown = c.put_entry.ensures step.0 (shown_with ladder.framings step.0 _ c.part_of-part.result _ _ words step.2) in (
-      next_rows ladder c.args.possible.now entries i _ within before.previous before.greatest step.0 c.part_of-part.result shown.0 law
-          (record { last = known.last; most = known.most; opened = step.1 }) part puts shown.1 shown.2,
+      next_rows ladder c.args.possible.now entries i _ within before.previous before.greatest step.0 c.summed_last-last.result.now c.part_of-part.result shown.0 law
+          (record { last = known.last; most = known.most; opened = step.1 }) last part puts shown.1 shown.2,
       next_known entries i _ within before.previous _ before.greatest _ c.loop-number.opens _ known c.behind-before.ensures.previous c.behind-before.ensures.greatest c.take_shown.ensures,
       c.next_run-run.ensures,
       passed ladder.framings _ _ (drop (i + 1) entries) new.left _ new.at _ (first_end new.left rest) c.end-end.result new.octets.items _

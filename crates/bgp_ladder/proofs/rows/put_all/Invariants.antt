@@ -11,5 +11,5 @@ abbrev pub invariant-loop-number : goal.invariant-loop-number
 invariant-loop-number g l =
     PutsRowsBefore l.ladder l.possible (take l.number l.entries) (drop l.number l.entries) l.fn.lines l.lines
     × Known l.entries l.number l.before.previous l.before.greatest l.opens
-    × IsRun l.ladder.impossible (reverse (take l.number l.entries)) (drop l.number l.entries) l.run
+    × IsRun l.ladder (reverse (take l.number l.entries)) (drop l.number l.entries) l.run
     × IsBatch l.ladder.framings (before_in nothing_before (take l.number l.entries)) (drop l.number l.entries) l.batch.left (drop l.batch.at l.batch.octets.items)

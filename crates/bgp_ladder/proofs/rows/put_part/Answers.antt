@@ -1,5 +1,4 @@
 use Rattle.std.proofs.Common.{[], refl}
-use Rattle.mrt.specs.Reader.{shown_of}
 use Rattle.bgp_text.proofs.Pieces.{nothing_yet}
 use Rattle.bgp_ladder.specs.Ladder.{row_pieces, sum_pieces}
 use Rattle.std.specs.Prelude.{None}
@@ -21,7 +20,7 @@ returns-in-Last g c = rw c.in-Last.is (λ opens deed. (
 
 pub returns-in-Sum : goal.returns-in-Sum
 returns-in-Sum g c = rw c.in-Sum.is (λ opens deed. (
-  sum_pieces c.args.ladder.now c.args.number c.in-Sum.count (shown_of c.args.entry.now.record),
+  sum_pieces c.args.ladder.now c.args.number c.in-Sum.count c.args.entry.now c.args.last.now,
   refl,
   c.put_sum.ensures,
 ))

@@ -10,5 +10,5 @@ returns-clause-run c =
     let all = c.loop-count-test.false in
     let most = c.loop-count.auto.count-end in
     let last : c.args.number + count + 1 ≡ length entries = omega (arith, first, all, most) in
-    let is = c.loop-count.invariant ∙ ap (λ (n : ℕ). count + n) (last_here c.args.impossible entries (c.args.number + count) last) in
+    let is = c.loop-count.invariant ∙ ap (λ (n : ℕ). count + n) (last_here c.args.ladder.now entries (c.args.number + count) last) in
     omega (arith, is, last)

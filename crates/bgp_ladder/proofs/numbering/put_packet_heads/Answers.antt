@@ -1,6 +1,6 @@
 use Rattle.bgp_text.proofs.Pieces.{Joins, and_then}
 use Rattle.bgp_ladder.proofs.Ends.{ended}
-use Rattle.bgp_ladder.proofs.head.put_heads.Goals as goal
+use Rattle.bgp_ladder.proofs.numbering.put_packet_heads.Goals as goal
 
 pub returns : goal.returns
 returns g c =

@@ -1,0 +1,8 @@
+use Rattle.bgp_text.proofs.Pieces.{Joins, and_then}
+use Rattle.bgp_ladder.proofs.Ends.{ended}
+use Rattle.bgp_ladder.proofs.numbering.put_packet_cells.Goals as goal
+
+pub returns : goal.returns
+returns g c =
+    let law : Joins g.W.Sink = record { joined = g.met.W.Sink.joined } in
+    and_then law c.put_tag.ensures (and_then law c.put_number.ensures (and_then law c.put_tag-2.ensures (ended c.put_number-2.ensures)))
