@@ -32,7 +32,7 @@ style_2 =
     ++ (codes "h2 samp::first-line{font-weight:700}\n"
     ++ (codes "h3{margin-top:1.2rem}\n"
     ++ (codes "h3,.sum{font-weight:700}\n"
-    ++ (codes "pre{margin:0}caption{color:var(--pale)}\n"
+    ++ (codes "pre{display:contents}caption{color:var(--pale)}\n"
     ++ (codes "samp{display:block;font:.85rem/1.5 ui-monospace,monospace;\n"
     ++ codes "font-weight:inherit;white-space:pre-wrap;overflow-wrap:anywhere;\n"))))))
 
@@ -77,7 +77,8 @@ style_6 =
     ++ (codes ".late{opacity:.65}\n"
     ++ (codes ".run{color:var(--pale);font-style:italic}.run div{border-style:none}\n"
     ++ (codes ".could{color:var(--ink)}.could div{border:1px dashed;margin:.1rem 2rem}\n"
-    ++ codes "@media screen{body{display:flex;flex-direction:column}\n")))))
+    ++ (codes "@media screen{body{display:flex;flex-direction:column}\n"
+    ++ codes "details[open]{content-visibility:auto;contain-intrinsic-height:auto 60rem}\n"))))))
 
 abbrev pub style_7 : List ℕ
 style_7 =

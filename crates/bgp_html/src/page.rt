@@ -46,7 +46,7 @@ fn put_style_2<W: Sink>(lines: &mut Lines<'_, W>)
     lines.put(b"h2 samp::first-line{font-weight:700}\n");
     lines.put(b"h3{margin-top:1.2rem}\n");
     lines.put(b"h3,.sum{font-weight:700}\n");
-    lines.put(b"pre{margin:0}caption{color:var(--pale)}\n");
+    lines.put(b"pre{display:contents}caption{color:var(--pale)}\n");
     lines.put(b"samp{display:block;font:.85rem/1.5 ui-monospace,monospace;\n");
     lines.put(b"font-weight:inherit;white-space:pre-wrap;overflow-wrap:anywhere;\n");
 }
@@ -104,6 +104,7 @@ fn put_style_6<W: Sink>(lines: &mut Lines<'_, W>)
     lines.put(b".run{color:var(--pale);font-style:italic}.run div{border-style:none}\n");
     lines.put(b".could{color:var(--ink)}.could div{border:1px dashed;margin:.1rem 2rem}\n");
     lines.put(b"@media screen{body{display:flex;flex-direction:column}\n");
+    lines.put(b"details[open]{content-visibility:auto;contain-intrinsic-height:auto 60rem}\n");
 }
 
 /// Puts a part of the style sheet.
