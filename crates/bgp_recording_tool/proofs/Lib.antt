@@ -4,11 +4,11 @@ pub mod Judgings
 pub mod Numbers
 pub mod Outcomes
 pub mod Puttings
-mod SameWays
+pub mod SameWays
 mod MadeOverAll
 mod Answered
 mod Searchings
-mod FoundNothing
+pub mod FoundNothing
 mod SomeRemarks
 pub mod Statuses
 pub mod Texts

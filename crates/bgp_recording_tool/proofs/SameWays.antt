@@ -1,6 +1,6 @@
 -- The ways of what packets tell of a connection are the same, wherever the octets of its messages lie.
-use Rattle.std.proofs.Common.{◌≡◌, ◌∙◌, ◌≤◌, ◌++◌, ℕ, Bool, List, [], ◌∷◌, Option, max, refl, sym, ap, subst, arith, length}
-use Rattle.std.specs.List.{AllByRecursion}
+use Rattle.std.proofs.Common.{◌≡◌, ◌∙◌, ◌≤◌, ◌++◌, ℕ, zero, suc, Bool, List, [], ◌∷◌, Option, IsSomeAnd, max, refl, sym, ap, subst, arith, length}
+use Rattle.std.specs.List.{AllByRecursion, slice_get}
 use Rattle.bgp_prefix.specs.Shown as shown
 use Rattle.bgp_prefix.specs.Shown.{ShownRecord}
 use Rattle.bgp_wire.specs.declared.header.MessageType.{MessageType}
@@ -8,7 +8,7 @@ use Rattle.streams.specs.declared.connection.Connection.{Connection}
 use Rattle.streams.specs.declared.connection.End.{End}
 use Rattle.bgp_open.specs.declared.config.Config.{Config}
 use Rattle.bgp_machine.specs.Run as runs
-use Rattle.bgp_machine.specs.Run.{IsComplete}
+use Rattle.bgp_machine.specs.Run.{Begins, IsComplete}
 use Rattle.bgp_recording.specs.declared.framing.Framings.{Framings}
 use Rattle.bgp_recording.specs.declared.message.Message.{Message}
 use Rattle.bgp_recording.specs.declared.ordering.Exchange.{Exchange}
@@ -25,9 +25,10 @@ use Rattle.bgp_recording.specs.Tells.{Event, Passed, AreTimed, items_in, second_
 use Rattle.bgp_recording.specs.Values.{MessageValue, code_of, message_value, values_of}
 use Rattle.bgp_recording.proofs.Heard.{own_end_is}
 use Rattle.bgp_ended.proofs.OneFraming.{IsTimed, are_timed, end_by, heard_once, said_once}
-use Rattle.bgp_orders.specs.Connections.{TellsConnection}
-use Rattle.bgp_orders.specs.Explained.{IsWhole}
-use Rattle.bgp_orders.specs.Ways.{IsWay, MayStart, changed_to, end_records, received_records, records_in, records_of_way, sent_records, state_after_end}
+use Rattle.bgp_orders.specs.declared.connection.Unexplained.{Unexplained}
+use Rattle.bgp_orders.specs.Connections.{IsPacketOf, TellsConnection}
+use Rattle.bgp_orders.specs.Explained.{IsExplained, IsWhole}
+use Rattle.bgp_orders.specs.Ways.{IsWay, MayStart, changed_to, end_records, received_records, records_in, records_of_front, records_of_way, sent_records, state_after_end}
 
 -- ---- two orders of the same messages
 
@@ -154,46 +155,102 @@ timed before (p ∷ ps) h = (h.0, h.1 ∙ same_second before p, timed (second_in
 
 -- ---- and has the same records
 
-same_answered : (kind : Option MessageType) (ps : List Pair) → is_answered_before_open kind (sent_in (items_in (here ps ++ []))) ≡ is_answered_before_open kind (sent_in (items_in (there ps ++ [])))
-same_answered kind [] = refl
-same_answered kind (Heard t m n e ∷ ps) = same_answered kind ps
-same_answered kind (Said t m n e ∷ ps) = ap (λ (v : MessageValue). answers_before_open kind v.kind (code_of v)) e
-same_answered kind (Over t end ∷ ps) = same_answered kind ps
+answered_behind : (kind : Option MessageType) (qs : List Pair) → is_answered_before_open kind (sent_in (items_in (here qs))) ≡ is_answered_before_open kind (sent_in (items_in (there qs)))
+answered_behind kind [] = refl
+answered_behind kind (Heard t m n e ∷ qs) = answered_behind kind qs
+answered_behind kind (Said t m n e ∷ qs) = ap (λ (v : MessageValue). answers_before_open kind v.kind (code_of v)) e
+answered_behind kind (Over t end ∷ qs) = answered_behind kind qs
 
-same_left : (ps : List Pair) → are_left (received_in (items_in (here ps ++ []))) ≡ are_left (received_in (items_in (there ps ++ [])))
-same_left [] = refl
-same_left (Heard t m n e ∷ ps) = refl
-same_left (Said t m n e ∷ ps) = same_left ps
-same_left (Over t end ∷ ps) = same_left ps
+-- the rest of an order stands behind the front of it
+same_answered : (kind : Option MessageType) (ps qs : List Pair)
+    → is_answered_before_open kind (sent_in (items_in (here ps ++ here qs))) ≡ is_answered_before_open kind (sent_in (items_in (there ps ++ there qs)))
+same_answered kind [] qs = answered_behind kind qs
+same_answered kind (Heard t m n e ∷ ps) qs = same_answered kind ps qs
+same_answered kind (Said t m n e ∷ ps) qs = ap (λ (v : MessageValue). answers_before_open kind v.kind (code_of v)) e
+same_answered kind (Over t end ∷ ps) qs = same_answered kind ps qs
 
--- the records of a received message, and of what stands behind it
-abbrev behind_received : State → ℕ → MessageValue → Bool → List Event → List ShownRecord
-behind_received state t v answered later =
+left_behind : (qs : List Pair) → are_left (received_in (items_in (here qs))) ≡ are_left (received_in (items_in (there qs)))
+left_behind [] = refl
+left_behind (Heard t m n e ∷ qs) = refl
+left_behind (Said t m n e ∷ qs) = left_behind qs
+left_behind (Over t end ∷ qs) = left_behind qs
+
+same_left : (ps qs : List Pair) → are_left (received_in (items_in (here ps ++ here qs))) ≡ are_left (received_in (items_in (there ps ++ there qs)))
+same_left [] qs = left_behind qs
+same_left (Heard t m n e ∷ ps) qs = refl
+same_left (Said t m n e ∷ ps) qs = same_left ps qs
+same_left (Over t end ∷ ps) qs = same_left ps qs
+
+-- the records of a received message, and of what stands behind it in the front
+abbrev behind_received : State → ℕ → MessageValue → Bool → List Event → List Event → List ShownRecord
+behind_received state t v answered front later =
     let led = led_by_received state v.kind answered in
-    (shown.Received t v.octets ∷ changed_to t state led) ++ records_in (state_then state led) (just_received v.kind) later []
+    (shown.Received t v.octets ∷ changed_to t state led) ++ records_in (state_then state led) (just_received v.kind) front later
 
 -- of a sent one
-abbrev behind_sent : State → Before → ℕ → MessageValue → List Event → List ShownRecord
-behind_sent state before t v later =
+abbrev behind_sent : State → Before → ℕ → MessageValue → List Event → List Event → List ShownRecord
+behind_sent state before t v front later =
     let led = led_by_sent state v.kind before in
-    (shown.Sent t v.octets ∷ changed_to t state led) ++ records_in (state_then state led) (just_sent state v.kind before) later []
+    (shown.Sent t v.octets ∷ changed_to t state led) ++ records_in (state_then state led) (just_sent state v.kind before) front later
 
-same_in : (state : State) (before : Before) (ps : List Pair) → records_in state before (here ps) [] ≡ records_in state before (there ps) []
-same_in state before [] = refl
-same_in state before (Heard t m n e ∷ ps) =
-    let answered = is_answered_before_open n.kind (sent_in (items_in (there ps ++ []))) in
+same_in : (state : State) (before : Before) (ps qs : List Pair) → records_in state before (here ps) (here qs) ≡ records_in state before (there ps) (there qs)
+same_in state before [] qs = refl
+same_in state before (Heard t m n e ∷ ps) qs =
+    let answered = is_answered_before_open n.kind (sent_in (items_in (there ps ++ there qs))) in
     let led = led_by_received state n.kind answered in
-    ap (λ (v : MessageValue). behind_received state t v (is_answered_before_open v.kind (sent_in (items_in (here ps ++ [])))) (here ps)) e
-    ∙ ap (λ (b : Bool). behind_received state t (message_value n) b (here ps)) (same_answered n.kind ps)
-    ∙ ap (λ (rs : List ShownRecord). received_records t state led n ++ rs) (same_in (state_then state led) (just_received n.kind) ps)
-same_in state before (Said t m n e ∷ ps) =
+    ap (λ (v : MessageValue). behind_received state t v (is_answered_before_open v.kind (sent_in (items_in (here ps ++ here qs)))) (here ps) (here qs)) e
+    ∙ ap (λ (b : Bool). behind_received state t (message_value n) b (here ps) (here qs)) (same_answered n.kind ps qs)
+    ∙ ap (λ (rs : List ShownRecord). received_records t state led n ++ rs) (same_in (state_then state led) (just_received n.kind) ps qs)
+same_in state before (Said t m n e ∷ ps) qs =
     let led = led_by_sent state n.kind before in
-    ap (λ (v : MessageValue). behind_sent state before t v (here ps)) e
-    ∙ ap (λ (rs : List ShownRecord). sent_records t state led n ++ rs) (same_in (state_then state led) (just_sent state n.kind before) ps)
-same_in state before (Over t end ∷ ps) =
-    let left = are_left (received_in (items_in (there ps ++ []))) in
-    ap (λ (b : Bool). end_records t state b ++ records_in (state_after_end state b) Other (here ps) []) (same_left ps)
-    ∙ ap (λ (rs : List ShownRecord). end_records t state left ++ rs) (same_in (state_after_end state left) Other ps)
+    ap (λ (v : MessageValue). behind_sent state before t v (here ps) (here qs)) e
+    ∙ ap (λ (rs : List ShownRecord). sent_records t state led n ++ rs) (same_in (state_then state led) (just_sent state n.kind before) ps qs)
+same_in state before (Over t end ∷ ps) qs =
+    let left = are_left (received_in (items_in (there ps ++ there qs))) in
+    ap (λ (b : Bool). end_records t state b ++ records_in (state_after_end state b) Other (here ps) (here qs)) (same_left ps qs)
+    ∙ ap (λ (rs : List ShownRecord). end_records t state left ++ rs) (same_in (state_after_end state left) Other ps qs)
+
+-- ---- a front of the one order is one of the other
+
+there_joined : (ps qs : List Pair) → there (ps ++ qs) ≡ there ps ++ there qs
+there_joined [] qs = refl
+there_joined (p ∷ ps) qs = ap (λ (es : List Event). Passed (second_in p) (item_there p) ∷ es) (there_joined ps qs)
+
+-- as many sent messages
+as_many : (ps : List Pair) → length (sent_in (items_in (here ps))) ≡ length (sent_in (items_in (there ps)))
+as_many [] = refl
+as_many (Heard t m n e ∷ ps) = as_many ps
+as_many (Said t m n e ∷ ps) = omega (arith, as_many ps)
+as_many (Over t end ∷ ps) = as_many ps
+
+-- the pairs of a front and of what stands behind it
+record IsSplit (pairs : List Pair) (front later : List Event) : Type 0 where
+  pub ps : List Pair
+  pub qs : List Pair
+  pub is_front : here ps ≡ front
+  pub is_later : here qs ≡ later
+  pub joined : ps ++ qs ≡ pairs
+
+event_is : (x y : Event) (xs ys : List Event) → x ∷ xs ≡ y ∷ ys → x ≡ y
+event_is x y xs ys e = cc
+
+events_are : (x y : Event) (xs ys : List Event) → x ∷ xs ≡ y ∷ ys → xs ≡ ys
+events_are x y xs ys e = cc
+
+no_event : (y : Event) (ys : List Event) → [] ≡ y ∷ ys → ⊥
+no_event y ys e = omega (arith, ap length e)
+
+split : (pairs : List Pair) (front later : List Event) → here pairs ≡ front ++ later → IsSplit pairs front later
+split pairs [] later is = record { ps = []; qs = pairs; is_front = refl; is_later = is; joined = refl }
+split [] (x ∷ front) later is = absurd (no_event x (front ++ later) is)
+split (p ∷ pairs) (x ∷ front) later is =
+    let k = split pairs front later (events_are _ _ _ _ is) in record {
+      ps = p ∷ k.ps;
+      qs = k.qs;
+      is_front = ap (λ (y : Event). y ∷ here k.ps) (event_is _ _ _ _ is) ∙ ap (λ (es : List Event). x ∷ es) k.is_front;
+      is_later = k.is_later;
+      joined = ap (λ (rs : List Pair). p ∷ rs) k.joined;
+    }
 
 -- ---- exchanges that tell the same
 
@@ -203,6 +260,12 @@ record TellAlike (one other : Exchange) : Type 0 where
   pub received : values_of one.received.now ≡ values_of other.received.now
   pub sent : values_of one.sent.now ≡ values_of other.sent.now
   pub end : one.end ≡ other.end
+
+same_length : (ms ns : List Message) → values_of ms ≡ values_of ns → length ms ≡ length ns
+same_length [] [] e = refl
+same_length [] (n ∷ ns) e = absurd (none_some (message_value n) (values_of ns) e)
+same_length (m ∷ ms) [] e = absurd (some_none (message_value m) (values_of ms) e)
+same_length (m ∷ ms) (n ∷ ns) e = omega (arith, same_length ms ns (tail_is _ _ _ _ e))
 
 none_left : (ms ns : List Message) → values_of ms ≡ values_of ns → ns ≡ [] → ms ≡ []
 none_left [] ns e is = refl
@@ -216,18 +279,18 @@ may_start one other start alike may_there = (
       ∙ ap opened_state alike.opened_by,
 )
 
--- a way of the one is a way of the other, with the same records
-record IsSameWay (within : ℕ) (one other : Exchange) (start : State) (events : List Event) : Type 0 where
-  pub others : List Event
-  pub way : IsWay within other start others
-  pub records : records_of_way one.second start events ≡ records_of_way other.second start others
+-- a way of the one is a way of the other
+record IsSameWay (within : ℕ) (other : Exchange) (start : State) (events : List Event) : Type 0 where
+  pub pairs : List Pair
+  pub is : here pairs ≡ events
+  pub way : IsWay within other start (there pairs)
 
-same_way : (within : ℕ) (one other : Exchange) (start : State) (events : List Event) → TellAlike one other → IsWay within one start events → IsSameWay within one other start events
+same_way : (within : ℕ) (one other : Exchange) (start : State) (events : List Event) → TellAlike one other → IsWay within one start events → IsSameWay within other start events
 same_way within one other start events alike way =
     let both = paired events other.received.now other.sent.now (ap values_of way.allowed.of_received ∙ alike.received) (ap values_of way.allowed.of_sent ∙ alike.sent) in
-    let number = state_number start in
     record {
-      others = there both.pairs;
+      pairs = both.pairs;
+      is = both.is;
       way = record {
         starts = may_start one other start alike way.starts;
         allowed = record {
@@ -238,10 +301,14 @@ same_way within one other start events alike way =
         };
         timed = subst (λ (s : ℕ). AreTimed s (there both.pairs)) alike.second (timed one.second both.pairs (subst (λ (es : List Event). AreTimed one.second es) (sym both.is) way.timed));
       };
-      records = ap (λ (es : List Event). records_of_way one.second start es) (sym both.is)
-          ∙ ap (λ (rs : List ShownRecord). shown.Changed one.second 1 number ∷ rs) (same_in start Other both.pairs)
-          ∙ ap (λ (s : ℕ). records_of_way s start (there both.pairs)) alike.second;
     }
+
+-- with the same records, of each front
+front_records : (one other : Exchange) (start : State) (ps qs : List Pair) → TellAlike one other
+    → records_of_front one.second start (here ps) (here qs) ≡ records_of_front other.second start (there ps) (there qs)
+front_records one other start ps qs alike =
+    ap (λ (rs : List ShownRecord). shown.Changed one.second 1 (state_number start) ∷ rs) (same_in start Other ps qs)
+    ∙ ap (λ (s : ℕ). records_of_front s start (there ps) (there qs)) alike.second
 
 -- ---- what packets tell of one connection
 
@@ -269,7 +336,9 @@ pub way_there : (within : ℕ) (framings : Framings) (one other : Connection) (a
     → TellsConnection framings one a → TellsConnection framings other b → IsWay within a start events
     → (others : List Event) × IsWay within b start others × (records_of_way a.second start events ≡ records_of_way b.second start others)
 way_there within framings one other a b start events same clocked h k way =
-    let is = same_way within a b start events (told_alike framings one other a b same clocked h k) way in (is.others, is.way, is.records)
+    let alike = told_alike framings one other a b same clocked h k in
+    let is = same_way within a b start events alike way in
+    (there is.pairs, is.way, ap (λ (es : List Event). records_of_way a.second start es) (sym is.is) ∙ front_records a b start is.pairs [] alike)
 
 -- the session can have ended so
 pub whole_there : (config : Config) (within : ℕ) (framings : Framings) (one other : Connection) (a b : Exchange) (e : runs.End) → TellTheSame one other → IsClocked one
@@ -281,6 +350,46 @@ whole_there config within framings one other a b e same clocked h k whole =
       way = is.1;
       complete = subst (λ (rs : List ShownRecord). IsComplete config rs e) is.2 whole.complete;
     }
+
+-- so many sent messages are explained
+pub explained_there : (config : Config) (within : ℕ) (framings : Framings) (one other : Connection) (a b : Exchange) (count : ℕ) → TellTheSame one other → IsClocked one
+    → TellsConnection framings one a → TellsConnection framings other b → IsExplained config within a count → IsExplained config within b count
+explained_there config within framings one other a b count same clocked h k explained =
+    let alike = told_alike framings one other a b same clocked h k in
+    let start = explained.start in
+    let is = same_way within a b start (explained.front ++ explained.later) alike explained.way in
+    let parts = split is.pairs explained.front explained.later is.is in
+    let way : IsWay within b start (there (parts.ps ++ parts.qs)) = subst (λ (ps : List Pair). IsWay within b start (there ps)) (sym parts.joined) is.way in
+    let begins : Begins config (records_of_front a.second start (here parts.ps) (here parts.qs)) =
+    subst (λ (es : List Event). Begins config (records_of_front a.second start (here parts.ps) es)) (sym parts.is_later)
+    (subst (λ (es : List Event). Begins config (records_of_front a.second start es explained.later)) (sym parts.is_front) explained.begins) in record {
+      start = start;
+      front = there parts.ps;
+      later = there parts.qs;
+      way = subst (λ (es : List Event). IsWay within b start es) (there_joined parts.ps parts.qs) way;
+      counts = sym (as_many parts.ps) ∙ ap (λ (es : List Event). length (sent_in (items_in es))) parts.is_front ∙ explained.counts;
+      begins = subst (λ (rs : List ShownRecord). Begins config rs) (front_records a b start parts.ps parts.qs alike) begins;
+    }
+
+-- the packet of the sent message behind so many
+same_packet : (packet place : ℕ) (ms ns : List Message) → values_of ms ≡ values_of ns → IsSomeAnd (slice_get ms place) (λ m. m.packet ≡ packet)
+    → IsSomeAnd (slice_get ns place) (λ m. m.packet ≡ packet)
+same_packet packet place [] [] e is = is
+same_packet packet place [] (n ∷ ns) e is = absurd (none_some (message_value n) (values_of ns) e)
+same_packet packet place (m ∷ ms) [] e is = absurd (some_none (message_value m) (values_of ms) e)
+same_packet packet zero (m ∷ ms) (n ∷ ns) e is = sym (packet_is m n (head_is _ _ _ _ e)) ∙ is
+same_packet packet (suc place) (m ∷ ms) (n ∷ ns) e is = same_packet packet place ms ns (tail_is _ _ _ _ e) is
+
+pub packet_there : (framings : Framings) (one other : Connection) (a b : Exchange) (u : Unexplained) → TellTheSame one other → IsClocked one
+    → TellsConnection framings one a → TellsConnection framings other b → IsPacketOf a u → IsPacketOf b u
+packet_there framings one other a b u same clocked h k is =
+    same_packet u.packet u.before a.sent.now b.sent.now (told_alike framings one other a b same clocked h k).sent is
+
+-- as many messages were sent
+pub sent_there : (framings : Framings) (one other : Connection) (a b : Exchange) → TellTheSame one other → IsClocked one
+    → TellsConnection framings one a → TellsConnection framings other b → length a.sent.now ≡ length b.sent.now
+sent_there framings one other a b same clocked h k =
+    same_length a.sent.now b.sent.now (told_alike framings one other a b same clocked h k).sent
 
 pub same_as_itself : (connection : Connection) → TellTheSame connection connection
 same_as_itself connection = record {

@@ -174,8 +174,7 @@ module _ (config : Config) (wanted : Import) (packets : List Recorded) (segments
     -- These entries are made of the connection with this number, or of the only one, and this is
     -- the verdict on their records. None of them is a ROUTE-REFRESH, where the session refuses
     -- one. And this is found over all orders. It is remarked if one of the records shows an UPDATE
-    -- of a confederation, and what is left out of what both OPENs offer. Where there is no memory
-    -- for the remarks, there are none.
+    -- of a confederation, and what is left out of what both OPENs offer.
     pub record IsJudged (number named : Option ℕ) (verdict : VerdictValue) (found : Found)
         (remarks : List Remark) : Type 0 where
       pub connection : Connection

@@ -121,12 +121,11 @@ remarks_on connection within entries notes confederation left_out verdict found 
     ∷ without_remark connection left_out.without ∷ made_order_remark connection found
     ∷ verdict_remark connection within entries verdict found ∷ [])
 
--- that is told, or nothing where there was no memory for it
+-- just that is told
 abbrev pub AreRemarks : Option ℕ → ℕ → List Entry → Notes → Bool → LeftOut → VerdictValue → Found
     → List Remark → Type 0
 AreRemarks connection within entries notes confederation left_out verdict found remarks =
-    (remarks ≡ remarks_on connection within entries notes confederation left_out verdict found)
-    ⊎ (remarks ≡ [])
+    remarks ≡ remarks_on connection within entries notes confederation left_out verdict found
 
 -- what helps against a refusal, if anything does
 abbrev pub help_by : Cause → Option ℕ → Refusal → Option Remark

@@ -279,8 +279,7 @@ fn put_searched<A: Allocator + Copy, W: Sink>(
 /// remarks, with a number if several connections are reported, and answers the exit status. If they
 /// aren't a yes, all orders are searched: another that is one is reported in place of the made one,
 /// and for a no a sent message that none explains in place of the record. If memory is refused for
-/// the verdict or for that search nothing is put or added; if it is refused for the remarks, these
-/// are left out.
+/// the verdict, for that search or for the remarks, nothing is put or added.
 fn report_made<A: Allocator + Copy, T: Tracker<A>, W: Sink>(
     alloc: A,
     config: &Config,
@@ -324,7 +323,7 @@ fn report_made<A: Allocator + Copy, T: Tracker<A>, W: Sink>(
         explained.left_out,
         verdict,
         &searched,
-    );
+    )?;
     Ok(put_searched(lines, alloc, config, report, entries, &explained, &searched))
 }
 

@@ -6,7 +6,7 @@ ghost use Rattle.bgp_recording_tool.specs.Remarks.{made_order_remark, making_rem
 ghost use Rattle.bgp_recording_tool.specs.Remarks.{making_remarks, verdict_remark};
 ghost use Rattle.bgp_recording_tool.specs.Remarks.{confederation_remark, has_sent, notes_of};
 ghost use Rattle.bgp_recording_tool.specs.Found.{found_of};
-ghost use Rattle.bgp_recording_tool.specs.Remarks.{AddsTold, AreRemarks, remarks_on};
+ghost use Rattle.bgp_recording_tool.specs.Remarks.{remarks_on};
 ghost use Rattle.bgp_recording_tool.specs.Remarks.{without_remark};
 ghost use Rattle.bgp_recording_tool.specs.Remarks.{one_order_remark, packet_after, yes_remark};
 ghost use Rattle.bgp_recording_tool.specs.Remarks.{unsent_remark};
@@ -218,8 +218,9 @@ fn made_order_remark<A: Allocator>(
 /// order is, if what is answered isn't its verdict; on a no, the sent message that no order
 /// explains; on a yes, that nothing was sent; if there are too many orders, that the verdict is
 /// about one. Each has this number, if there are several connections. None is added if a growth is
-/// refused.
-fn try_to_add<A: Allocator + Copy>(
+/// refused, and then it returns `AllocError`: without them an answer would say too much or too
+/// little.
+pub(crate) fn add_remarks_on<A: Allocator + Copy>(
     remarks: &mut Vec<Remark, A>,
     named: Option<usize>,
     within: u16,
@@ -259,33 +260,4 @@ fn try_to_add<A: Allocator + Copy>(
             judged,
         ],
     )
-}
-
-/// Adds what there is to tell of a connection, with this number, where several connections are; or
-/// nothing, if there is no memory for it.
-pub(crate) fn add_remarks_on<A: Allocator + Copy>(
-    remarks: &mut Vec<Remark, A>,
-    named: Option<usize>,
-    within: u16,
-    made: &Recording<'_, A>,
-    confederation: bool,
-    left_out: LeftOut,
-    verdict: &Verdict<A>,
-    searched: &Searched<'_, A>,
-)
-    ensures { AddsTold remarks.old.items remarks.new.items (AreRemarks named within
-        made.now.entries.items (notes_of made.now) confederation left_out
-        (verdict_value verdict.now) (found_of searched.now)) }
-{
-    // Without memory the verdict is told alone.
-    let _ = try_to_add(
-        remarks,
-        named,
-        within,
-        made,
-        confederation,
-        left_out,
-        verdict,
-        searched,
-    );
 }

@@ -1,4 +1,4 @@
-use Rattle.std.proofs.Common.{◌↔◌, IsTrue, ◌∙◌, List, ap, map, subst, sym}
+use Rattle.std.proofs.Common.{◌↔◌, IsTrue, ◌∙◌, List, ap, map, refl, subst, sym}
 use Rattle.std.specs.List.{AllByRecursion}
 use Rattle.bgp_prefix.specs.Shown.{ShownRecord}
 use Rattle.mrt.specs.Reader.{shown_of}
@@ -59,6 +59,6 @@ returns g c = λ packets segments taken holds tells_one.
           c.some_show_confederations-confederation.ensures;
       left_out = c.in_ok-explained.explained.left_out;
       leaves_out = subst (λ (rs : List ShownRecord). JudgesWithout config rs c.in_ok-explained.explained.left_out) (ap (map shown_of) c.deref.ensures.value ∙ records) c.in_ok-explained.ensures.explained.left_out;
-      added = c.add_remarks_on.ensures;
+      added = record { own = _; added = c.in_ok-add_remarks_on.ensures.ok; is_told = refl };
       tells = tells;
     }
