@@ -1,7 +1,7 @@
 //! What is known of the stretches that are judged and whose answers are printed: their records, and
 //! where a no stands.
 
-ghost use Rattle.std.specs.Prelude.{◌≡◌, ◌+◌, ◌<◌, ◌∷◌, [], IfOk, IsFalse, map};
+ghost use Rattle.std.specs.Prelude.{◌≡◌, ◌+◌, ◌<◌, ◌∷◌, [], IfOk, IsFalse, IsTrue, map};
 ghost use Rattle.std.specs.List.{AllByRecursion};
 ghost use Rattle.mrt_sessions.specs.Located.{located};
 ghost use Rattle.bgp_check.specs.Answered.{answer_value};
@@ -98,12 +98,17 @@ fn mark_of<'a, A: Allocator + Copy>(
         (map located view.now.named.now) (stretch_value end.entry)) }
 {
     let StretchEnd {
-        part, name, told, ..
+        part,
+        name,
+        told,
+        ..
     } = end;
     let numbers = numbers_of(alloc, view.named, part.before, &told.places)?;
     let no = no_in(&told.answer);
     let StretchTold {
-        records, extended, ..
+        records,
+        extended,
+        ..
     } = told;
     Ok(StretchMark {
         addresses: addresses_of(&view.session),
@@ -130,7 +135,9 @@ impl<'a, A: Allocator + Copy> StretchMarks<'a, A> {
     }
 
     /// Makes a list to which none is added: all are missing.
-    pub(crate) fn unkept(alloc: A) -> StretchMarks<'a, A> {
+    pub(crate) fn unkept(alloc: A) -> StretchMarks<'a, A>
+        ensures { IsTrue result.are_missing }
+    {
         StretchMarks {
             stretches: Vec::new(alloc),
             are_missing: true,
