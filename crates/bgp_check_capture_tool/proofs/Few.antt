@@ -1,5 +1,5 @@
 -- The numbers of the judged records of a stretch, whose session has fewer than so many records.
-use Rattle.std.proofs.Common.{◌≡◌, ◌+◌, ◌<◌, ◌≤◌, ℕ, List, Option, ap, arith, length, subst, sym}
+use Rattle.std.proofs.Common.{◌+◌, ◌<◌, ℕ, List, Option, ap, arith, length, subst, sym}
 use Rattle.std.specs.List.{AllByRecursion}
 use Rattle.std.below.core.specs.declared.int.usize.TheConstants.{MAX}
 use Rattle.bgp_prefix.specs.Shown.{ShownRecord}

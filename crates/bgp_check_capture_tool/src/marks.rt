@@ -162,12 +162,14 @@ impl<'a, A: Allocator + Copy> StretchMarks<'a, A> {
             (addresses_of view.now.session) (map located view.now.named.now)
             (Stretch (stretch_value end.entry))) }
     {
-        if self.are_missing || !is_marked(view.telling.printing.quiet, &end.told.answer) {
+        if self.are_missing {
             return;
         }
-        match mark_of(alloc, view, end) {
-            Ok(mark) => self.add(mark),
-            Err(AllocError) => self.are_missing = true,
+        if is_marked(view.telling.printing.quiet, &end.told.answer) {
+            match mark_of(alloc, view, end) {
+                Ok(mark) => self.add(mark),
+                Err(AllocError) => self.are_missing = true,
+            }
         }
     }
 }
