@@ -21,8 +21,11 @@ use Rattle.bgp_check_capture_tool.specs.Firsts.{firsts_after, with_first}
 use Rattle.bgp_check_lines.specs.Sessions.{fault_text, session_line}
 use Rattle.bgp_check_capture_tool.specs.Ends.{IsSessionTold}
 use Rattle.bgp_check_capture_tool.specs.Putting.{PutsSession}
+use Rattle.bgp_check_capture_tool.specs.Marks.{AddsMarks, ends_marks}
 use Rattle.bgp_check_capture_tool.specs.Text.{ends_text, session_text}
+use Rattle.bgp_check_capture_tool.specs.declared.marks.StretchMarks.{StretchMarks}
 use Rattle.bgp_check_capture_tool.specs.declared.telling.Telling.{Telling}
+use Rattle.bgp_check_capture_tool.proofs.Marked.{adds_block, adds_nothing}
 
 -- what is left of a list is left of it again
 kept_twice : {X : Type 0} (p : X → Bool) (xs : List X) → filter p (filter p xs) ≡ filter p xs
@@ -55,16 +58,16 @@ all_of : {X : Type 0} (P : X → Type 0) (xs : List X) (one : X) → AllByRecurs
 all_of P [] one all p = (p, tt)
 all_of P (b ∷ xs) one all p = (all.0, all_of P xs one all.1 p)
 
-pub none_put : {Y T : Type 0} {sink : sinks.Ghosts T} (telling : Telling) (named : List Located) (lines : CheckLines Y T sink) (tally : Tally) (firsts : List (Option CaptureFault)) → PutsLines lines lines [] → tally ≡ no_tally
-    → firsts ≡ [] → PutsBlocks telling named [] lines lines no_tally tally [] firsts
-none_put telling named lines tally firsts wrote none nothing = record { blocks = []; are = refl; told = tt; wrote = wrote; tallied = none; added = nothing }
+pub none_put : {Y T : Type 0} {sink : sinks.Ghosts T} (telling : Telling) (named : List Located) (lines : CheckLines Y T sink) (tally : Tally) (firsts : List (Option CaptureFault)) (marks : StretchMarks Y) → PutsLines lines lines [] → tally ≡ no_tally
+    → firsts ≡ [] → PutsBlocks telling named [] lines lines no_tally tally [] firsts marks marks
+none_put telling named lines tally firsts marks wrote none nothing = record { blocks = []; are = refl; told = tt; wrote = wrote; tallied = none; added = nothing; marked = adds_nothing marks }
 
 pub one_put : {Y T Z : Type 0} {sink : sinks.Ghosts T} → Joins sink → (telling : Telling) (named : List Located) (sessions : Sessions Z) (known : List Addresses) (i : ℕ) (d : Addresses)
-    (lines middle lines' : CheckLines Y T sink) (between tally : Tally) (among firsts : List (Option CaptureFault)) → known ≡ held_sessions sessions → i < length known → HoldsSessions named sessions
-    → PutsBlocks telling named (take i (held_sessions sessions)) lines middle no_tally between [] among
-    → PutsSession telling (get_or known i d) (held_records sessions (get_or known i d)) middle lines' between tally among firsts
-    → PutsBlocks telling named (take (i + 1) (held_sessions sessions)) lines lines' no_tally tally [] firsts
-one_put {Y} {T} {Z} law telling named sessions known i d lines middle lines' between tally among firsts same within holds so_far puts =
+    (lines middle lines' : CheckLines Y T sink) (between tally : Tally) (among firsts : List (Option CaptureFault)) (marks met marks' : StretchMarks Y) → known ≡ held_sessions sessions → i < length known → HoldsSessions named sessions
+    → PutsBlocks telling named (take i (held_sessions sessions)) lines middle no_tally between [] among marks met
+    → PutsSession telling (get_or known i d) (held_records sessions (get_or known i d)) middle lines' between tally among firsts met marks'
+    → PutsBlocks telling named (take (i + 1) (held_sessions sessions)) lines lines' no_tally tally [] firsts marks marks'
+one_put {Y} {T} {Z} law telling named sessions known i d lines middle lines' between tally among firsts marks met marks' same within holds so_far puts =
     let addresses = get_or known i d in
     let block : Block = record { addresses = addresses; ends = puts.ends; fault = puts.fault } in
     let mine = holds.each addresses in
@@ -76,11 +79,12 @@ one_put {Y} {T} {Z} law telling named sessions known i d lines middle lines' bet
       wrote = subst (λ (text : List ℕ). PutsLines lines lines' text) (text_of telling.printing named so_far.blocks block) (then_lines law so_far.wrote (subst (λ (rs : List Located). PutsLines middle lines' (session_text telling.printing.quiet (session_line addresses rs) (ends_text telling.printing addresses.local puts.ends ++ fault_text puts.fault))) mine puts.wrote));
       tallied = puts.tallied ∙ ap (λ (t : Tally). with_block t block) so_far.tallied ∙ tally_of no_tally so_far.blocks block;
       added = puts.added ∙ ap (λ (fs : List (Option CaptureFault)). with_first fs block.fault) so_far.added ∙ firsts_of [] so_far.blocks block;
+      marked = adds_block telling.printing named so_far.blocks block marks met marks' so_far.marked (subst (λ (rs : List Located). AddsMarks met marks' (ends_marks telling.printing.quiet addresses rs puts.ends)) mine puts.marked);
     }
 
-pub all_put : {Y T Z : Type 0} {sink : sinks.Ghosts T} (telling : Telling) (named : List Located) (sessions : Sessions Z) (known : List Addresses) (i : ℕ) (lines lines' : CheckLines Y T sink) (tally : Tally) (firsts : List (Option CaptureFault))
-    → known ≡ held_sessions sessions → length known ≤ i → HoldsSessions named sessions → PutsBlocks telling named (take i (held_sessions sessions)) lines lines' no_tally tally [] firsts
-    → PutsBlocks telling named (sessions_in named) lines lines' no_tally tally [] firsts
-all_put {Y} {T} {Z} telling named sessions known i lines lines' tally firsts same past holds puts =
-    subst (λ (ks : List Addresses). PutsBlocks telling named ks lines lines' no_tally tally [] firsts)
+pub all_put : {Y T Z : Type 0} {sink : sinks.Ghosts T} (telling : Telling) (named : List Located) (sessions : Sessions Z) (known : List Addresses) (i : ℕ) (lines lines' : CheckLines Y T sink) (tally : Tally) (firsts : List (Option CaptureFault)) (marks marks' : StretchMarks Y)
+    → known ≡ held_sessions sessions → length known ≤ i → HoldsSessions named sessions → PutsBlocks telling named (take i (held_sessions sessions)) lines lines' no_tally tally [] firsts marks marks'
+    → PutsBlocks telling named (sessions_in named) lines lines' no_tally tally [] firsts marks marks'
+all_put {Y} {T} {Z} telling named sessions known i lines lines' tally firsts marks marks' same past holds puts =
+    subst (λ (ks : List Addresses). PutsBlocks telling named ks lines lines' no_tally tally [] firsts marks marks')
     (take_all i (held_sessions sessions) (subst (λ (ks : List Addresses). length ks ≤ i) same past) ∙ holds.in_order) puts

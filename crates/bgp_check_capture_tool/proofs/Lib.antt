@@ -1,8 +1,10 @@
 pub mod Apart
 pub mod Numbers
 pub mod Standing
+pub mod Few
 pub mod Fronts
 pub mod Adds
+pub mod Marked
 pub mod ToldSoFar
 pub mod WholeSession
 pub mod Blocks

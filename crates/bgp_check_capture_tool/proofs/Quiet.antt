@@ -13,7 +13,7 @@ use Rattle.bgp_check.specs.Cut.{joined}
 use Rattle.bgp_check_lines.specs.Sessions.{fault_text, refused_text}
 use Rattle.bgp_check_lines.specs.Quiet.{is_well}
 use Rattle.bgp_check_lines.specs.Tally as tallies
-use Rattle.bgp_check_lines.specs.Tally.{last_text, tally_line}
+use Rattle.bgp_check_lines.specs.Tally.{tally_line}
 use Rattle.bgp_check_lines.specs.Text.{no_line, unfinished_line}
 use Rattle.bgp_check_lines.specs.Printing.{Printing}
 use Rattle.bgp_check_lines.specs.DeclaredTally.{Tally}

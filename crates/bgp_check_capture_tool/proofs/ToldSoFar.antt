@@ -14,10 +14,13 @@ use Rattle.bgp_check.specs.BeforeLeaving.{IsAtLeaving, IsBeforeLeaving}
 use Rattle.bgp_check_lines.specs.Printing.{Printing}
 use Rattle.bgp_check_lines.specs.DeclaredTally.{Tally}
 use Rattle.bgp_check_capture_tool.specs.Counted.{with_ends, with_one}
-use Rattle.bgp_check_capture_tool.specs.Ends.{AreTold, End, IsToldOf, front_ends}
-use Rattle.bgp_check_capture_tool.specs.Putting.{Adds, Puts, StretchesUpTo}
+use Rattle.bgp_check_capture_tool.specs.Ends.{AreTold, End, IsToldOf, addresses_of, front_ends}
+use Rattle.bgp_check_capture_tool.specs.Marks.{AddsMarks, end_marks, ends_marks}
+use Rattle.bgp_check_capture_tool.specs.Putting.{Adds, Puts, StretchesUpTo, heading_of}
 use Rattle.bgp_check_capture_tool.specs.declared.ends.Put.{Put}
+use Rattle.bgp_check_capture_tool.specs.declared.marks.StretchMarks.{StretchMarks}
 use Rattle.bgp_check_capture_tool.proofs.Adds.{adds_then}
+use Rattle.bgp_check_capture_tool.proofs.Marked.{adds_end, adds_front}
 use Rattle.bgp_check_capture_tool.specs.StretchEnd.{View}
 use Rattle.bgp_check_capture_tool.specs.Stretches.{AreCut, IsFirst, first_of}
 use Rattle.bgp_check_capture_tool.specs.Text.{ends_text, kept_text}
@@ -73,23 +76,24 @@ told_more view before (s ∷ stretches) stretch behind (e ∷ ends) end told is 
 
 -- These records are told so far, of which so many are: what stands before the first stretch and some
 -- stretches. This rest is left.
-pub record SoFar {Y T : Type 0} {sink : sinks.Ghosts T} (heading : List ℕ) (printing : Printing) (view : View) (records rest : List ShownRecord) (before : ℕ)
-    (lines lines' : CheckLines Y T sink) (tally : Tally) (put : Put) : Type 0 where
+pub record SoFar {Y T : Type 0} {sink : sinks.Ghosts T} (printing : Printing) (view : View) (records rest : List ShownRecord) (before : ℕ)
+    (lines lines' : CheckLines Y T sink) (tally : Tally) (put : Put) (marks marks' : StretchMarks Y) : Type 0 where
   pub front : List ShownRecord
   pub stretches : List (List ShownRecord)
   pub ends : List End
   pub cut : AreCut records front stretches rest
   pub told : AreTold view (length front) stretches rest ends
   pub many : before ≡ length front + length (joined stretches)
-  pub adds : Adds heading lines lines' (not printing.quiet) put.is_headed (ends_text printing view.session.local (front_ends front ++ ends))
+  pub adds : Adds (heading_of view) lines lines' (not printing.quiet) put.is_headed (ends_text printing view.session.local (front_ends front ++ ends))
   pub tallied : put.tally ≡ with_ends tally (front_ends front ++ ends)
+  pub marked : AddsMarks marks marks' (ends_marks printing.quiet (addresses_of view.session) view.named (front_ends front ++ ends))
 
 -- none is yet
-pub none_told : {Y T : Type 0} {sink : sinks.Ghosts T} (heading : List ℕ) (printing : Printing) (view : View) (records front rest : List ShownRecord) (count before : ℕ) (lines lines' : CheckLines Y T sink) (tally : Tally) (put : Put)
-    → before ≡ length front → (is : IsBeforeLeaving records count) → front ≡ is.front → rest ≡ is.rest
-    → Adds heading lines lines' (not printing.quiet) put.is_headed (ends_text printing view.session.local (front_ends front))
-    → put.tally ≡ with_ends tally (front_ends front) → SoFar heading printing view records rest before lines lines' tally put
-none_told {Y} {T} {sink} heading printing view records front rest count before lines lines' tally put is_before is is_front is_rest adds tallied =
+pub none_told : {Y T : Type 0} {sink : sinks.Ghosts T} (printing : Printing) (view : View) (records front rest : List ShownRecord) (count before : ℕ) (lines lines' : CheckLines Y T sink) (tally : Tally) (put : Put)
+    (marks : StretchMarks Y) → before ≡ length front → (is : IsBeforeLeaving records count) → front ≡ is.front → rest ≡ is.rest
+    → Adds (heading_of view) lines lines' (not printing.quiet) put.is_headed (ends_text printing view.session.local (front_ends front))
+    → put.tally ≡ with_ends tally (front_ends front) → SoFar printing view records rest before lines lines' tally put marks marks
+none_told {Y} {T} {sink} printing view records front rest count before lines lines' tally put marks is_before is is_front is_rest adds tallied =
     let none : front_ends front ++ [] ≡ front_ends front = append-nil (front_ends front) in
     record {
       front = front;
@@ -103,17 +107,20 @@ none_told {Y} {T} {sink} heading printing view records front rest count before l
       };
       told = tt;
       many = omega (arith, is_before);
-      adds = subst (λ (es : List End). Adds heading lines lines' (not printing.quiet) put.is_headed (ends_text printing view.session.local es)) (sym none) adds;
+      adds = subst (λ (es : List End). Adds (heading_of view) lines lines' (not printing.quiet) put.is_headed (ends_text printing view.session.local es)) (sym none) adds;
       tallied = tallied ∙ ap (with_ends tally) (sym none);
+      marked = subst (λ (es : List End). AddsMarks marks marks (ends_marks printing.quiet (addresses_of view.session) view.named es)) (sym none) (adds_front printing.quiet (addresses_of view.session) view.named front marks);
     }
 
 -- one more is
-pub one_told : {Y T : Type 0} {sink : sinks.Ghosts T} → Joins sink → (heading : List ℕ) (printing : Printing) (view : View) (records rest stretch behind : List ShownRecord) (before count : ℕ) (end : End)
-    (lines middle lines' : CheckLines Y T sink) (tally : Tally) (between put : Put) → SoFar heading printing view records rest before lines middle tally between
+pub one_told : {Y T : Type 0} {sink : sinks.Ghosts T} → Joins sink → (printing : Printing) (view : View) (records rest stretch behind : List ShownRecord) (before count : ℕ) (end : End)
+    (lines middle lines' : CheckLines Y T sink) (tally : Tally) (between put : Put) (marks known marks' : StretchMarks Y) → SoFar printing view records rest before lines middle tally between marks known
     → IsFirst rest stretch behind → count ≡ length stretch → IsToldOf view before stretch (first_of behind) end
-    → Adds heading middle lines' between.is_headed put.is_headed (kept_text printing view.session.local end)
-    → put.tally ≡ with_one between.tally end → SoFar heading printing view records behind (before + count) lines lines' tally put
-one_told {Y} {T} {sink} law heading printing view records rest stretch behind before count end lines middle lines' tally between put so_far first is_count is adds tallied =
+    → Adds (heading_of view) middle lines' between.is_headed put.is_headed (kept_text printing view.session.local end)
+    → put.tally ≡ with_one between.tally end → AddsMarks known marks' (end_marks printing.quiet (addresses_of view.session) view.named end)
+    → SoFar printing view records behind (before + count) lines lines' tally put marks marks'
+one_told {Y} {T} {sink} law printing view records rest stretch behind before count end lines middle lines' tally between put marks known marks' so_far first is_count is adds tallied marked =
+    let heading = heading_of view in
     let front = so_far.front in
     let stretches = so_far.stretches in
     let longer : front_ends front ++ (so_far.ends ++ end ∷ []) ≡ (front_ends front ++ so_far.ends) ++ end ∷ [] = sym (append_assoc (front_ends front) so_far.ends (end ∷ [])) in
@@ -137,17 +144,20 @@ one_told {Y} {T} {sink} law heading printing view records rest stretch behind be
           (subst (λ (text : List ℕ). Adds heading lines lines' (not printing.quiet) put.is_headed text) (text_more printing view.session.local (front_ends front ++ so_far.ends) end)
           (adds_then law heading lines middle lines' (not printing.quiet) between.is_headed put.is_headed _ _ so_far.adds adds));
       tallied = tallied ∙ ap (λ (t : Tally). with_one t end) so_far.tallied ∙ counted_more tally (front_ends front ++ so_far.ends) end ∙ ap (with_ends tally) (sym longer);
+      marked = subst (λ (es : List End). AddsMarks marks marks' (ends_marks printing.quiet (addresses_of view.session) view.named es)) (sym longer)
+          (adds_end printing.quiet (addresses_of view.session) view.named (front_ends front ++ so_far.ends) end marks known marks' so_far.marked marked);
     }
 
 -- all are, or all but the rest
-pub told_up_to : {Y T : Type 0} {sink : sinks.Ghosts T} (heading : List ℕ) (printing : Printing) (view : View) (records rest : List ShownRecord) (before : ℕ) (all : Bool) (lines lines' : CheckLines Y T sink) (tally : Tally) (put : Put)
-    → (IsTrue all ↔ rest ≡ []) → SoFar heading printing view records rest before lines lines' tally put
-    → Puts heading printing view.session.local lines lines' tally put (StretchesUpTo view records all)
-told_up_to heading printing view records rest before all lines lines' tally put done so_far = record {
+pub told_up_to : {Y T : Type 0} {sink : sinks.Ghosts T} (printing : Printing) (view : View) (records rest : List ShownRecord) (before : ℕ) (all : Bool) (lines lines' : CheckLines Y T sink) (tally : Tally) (put : Put)
+    (marks marks' : StretchMarks Y) → (IsTrue all ↔ rest ≡ []) → SoFar printing view records rest before lines lines' tally put marks marks'
+    → Puts printing (addresses_of view.session) view.named lines lines' tally put marks marks' (StretchesUpTo view records all)
+told_up_to printing view records rest before all lines lines' tally put marks marks' done so_far = record {
   ends = front_ends so_far.front ++ so_far.ends;
   told = (rest, done, record { front = so_far.front; stretches = so_far.stretches; later = so_far.ends; cut = so_far.cut; told = so_far.told; are = refl });
   adds = so_far.adds;
   tallied = so_far.tallied;
+  marked = so_far.marked;
 }
 
 -- ---- a rest

@@ -12,13 +12,13 @@ use Rattle.bgp_machine.specs.Lists.{Has}
 use Rattle.bgp_check_lines.specs.declared.check_lines.CheckLines.{CheckLines}
 use Rattle.bgp_check.specs.SessionOffers.{HearsOffer, SendsOffer}
 use Rattle.bgp_check_lines.specs.Capture.{no_memory}
-use Rattle.bgp_check_lines.specs.Sessions.{session_line}
 use Rattle.bgp_check_lines.specs.DeclaredTally.{Tally}
-use Rattle.bgp_check_capture_tool.specs.Ends.{IsSessionTold, session_of, view_of}
+use Rattle.bgp_check_capture_tool.specs.Ends.{IsSessionTold, addresses_of, session_of, view_of}
 use Rattle.bgp_check_capture_tool.specs.Judging.{telling_where}
-use Rattle.bgp_check_capture_tool.specs.Putting.{Puts, RecordsUpTo, heading_of}
+use Rattle.bgp_check_capture_tool.specs.Putting.{Puts, RecordsUpTo}
 use Rattle.bgp_check_capture_tool.specs.StretchEnd.{View}
 use Rattle.bgp_check_capture_tool.specs.declared.ends.Put.{Put}
+use Rattle.bgp_check_capture_tool.specs.declared.marks.StretchMarks.{StretchMarks}
 use Rattle.bgp_check_capture_tool.specs.declared.telling.Telling.{Telling}
 
 pub seen_as : (telling : Telling) (addresses : Addresses) (named : List Located) (refusal : Option CaptureFault) (after : Telling) (session : Session)
@@ -27,13 +27,13 @@ pub seen_as : (telling : Telling) (addresses : Addresses) (named : List Located)
 seen_as telling addresses named refusal after session is_after is_session = λ i. record { telling = is_after i; session = is_session i; named = named }
 
 pub all_told : {Y T : Type 0} {sink : sinks.Ghosts T} (telling : Telling) (addresses : Addresses) (named : List Located) (view : View) (records shown : List ShownRecord) (extended : ExtendedMessages)
-    (refusal fault : Option CaptureFault) (all : Bool) (lines lines' : CheckLines Y T sink) (tally : Tally) (put : Put) → view ≡ view_of telling addresses named refusal → records ≡ shown
+    (refusal fault : Option CaptureFault) (all : Bool) (lines lines' : CheckLines Y T sink) (tally : Tally) (put : Put) (marks marks' : StretchMarks Y) → view ≡ view_of telling addresses named refusal → records ≡ shown
     → (IsTrue extended.received ↔ Has SendsOffer named) → (IsTrue extended.sent ↔ Has HearsOffer named) → IsReading addresses extended named shown refusal
-    → (IsTrue all × (fault ≡ refusal)) ⊎ ((¬ IsTrue all) × (fault ≡ Some no_memory)) → Puts (heading_of view) view.telling.printing view.session.local lines lines' tally put (RecordsUpTo view records all)
-    → Puts (session_line addresses named) telling.printing addresses.local lines lines' tally put (λ ends. IsSessionTold telling addresses named ends fault)
-all_told telling addresses named view records shown extended refusal fault all lines lines' tally put is_view is_records received sent reading how puts =
-    let p = subst (λ (rs : List ShownRecord). Puts (session_line addresses named) telling.printing addresses.local lines lines' tally put (RecordsUpTo (view_of telling addresses named refusal) rs all)) is_records
-    (subst (λ (v : View). Puts (heading_of v) v.telling.printing v.session.local lines lines' tally put (RecordsUpTo v records all)) is_view puts) in
+    → (IsTrue all × (fault ≡ refusal)) ⊎ ((¬ IsTrue all) × (fault ≡ Some no_memory)) → Puts view.telling.printing (addresses_of view.session) view.named lines lines' tally put marks marks' (RecordsUpTo view records all)
+    → Puts telling.printing addresses named lines lines' tally put marks marks' (λ ends. IsSessionTold telling addresses named ends fault)
+all_told telling addresses named view records shown extended refusal fault all lines lines' tally put marks marks' is_view is_records received sent reading how puts =
+    let p = subst (λ (rs : List ShownRecord). Puts telling.printing addresses named lines lines' tally put marks marks' (RecordsUpTo (view_of telling addresses named refusal) rs all)) is_records
+    (subst (λ (v : View). Puts v.telling.printing (addresses_of v.session) v.named lines lines' tally put marks marks' (RecordsUpTo v records all)) is_view puts) in
     record {
       ends = p.ends;
       told = inl record {
@@ -52,4 +52,5 @@ all_told telling addresses named view records shown extended refusal fault all l
       };
       adds = p.adds;
       tallied = p.tallied;
+      marked = p.marked;
     }

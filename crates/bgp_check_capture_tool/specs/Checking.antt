@@ -2,6 +2,7 @@
 use Rattle.std.specs.Prelude.{◌≡◌, ◌⊎◌, ◌+◌, ◌++◌, ℕ, Bool, true, false, List, [], ◌∷◌, map}
 use Rattle.std.specs.Prelude.{Option, None, Some, length, if◌then◌else◌}
 use Rattle.std.specs.List.{AllByRecursion, flat_map}
+use Rattle.std.proofs.Common.{inl, inr}
 use Rattle.mrt.specs.declared.fault.CaptureFault.{CaptureFault}
 use Rattle.mrt.specs.declared.fault.FaultKind.{FaultKind}
 use Rattle.mrt.specs.declared.sink.Sink as sinks
@@ -24,7 +25,9 @@ use Rattle.bgp_check_capture_tool.specs.Counted.{with_ends, with_fault}
 use Rattle.bgp_check_capture_tool.specs.Ends.{End, IsSessionTold}
 use Rattle.bgp_check_capture_tool.specs.Firsts.{firsts_after, with_first}
 use Rattle.bgp_check_capture_tool.specs.Judging.{telling_where}
+use Rattle.bgp_check_capture_tool.specs.Marks.{AddsMarks, MarkValue, ends_marks}
 use Rattle.bgp_check_capture_tool.specs.Text.{ends_text, session_text}
+use Rattle.bgp_check_capture_tool.specs.declared.marks.StretchMarks.{StretchMarks}
 use Rattle.bgp_check_capture_tool.specs.declared.nothing.NothingJudged.{NothingJudged}
 use Rattle.bgp_check_capture_tool.specs.declared.options.CaptureOptions.{CaptureOptions}
 use Rattle.bgp_check_capture_tool.specs.declared.telling.Telling.{Telling}
@@ -63,17 +66,27 @@ tally_from tally (block ∷ blocks) = tally_from (with_block tally block) blocks
 abbrev pub faults_in : List Block → List (Option CaptureFault)
 faults_in blocks = map (λ (block : Block). block.fault) blocks
 
+-- what is known of their stretches that are judged and not left out
+abbrev pub block_marks : Printing → List Located → Block → List MarkValue
+block_marks printing named block =
+    ends_marks printing.quiet block.addresses (records_between block.addresses named) block.ends
+
+abbrev pub marks_of : Printing → List Located → List Block → List MarkValue
+marks_of printing named blocks = flat_map (block_marks printing named) blocks
+
 -- Blocks of these sessions were put, and are counted; of their refusals the first of each number is
 -- added to those that are.
 pub record PutsBlocks {Y T : Type 0} {sink : sinks.Ghosts T} (telling : Telling)
     (named : List Located) (sessions : List Addresses) (lines lines' : CheckLines Y T sink)
-    (tally tally' : Tally) (firsts firsts' : List (Option CaptureFault)) : Type 0 where
+    (tally tally' : Tally) (firsts firsts' : List (Option CaptureFault))
+    (marks marks' : StretchMarks Y) : Type 0 where
   pub blocks : List Block
   pub are : map (λ b. b.addresses) blocks ≡ sessions
   pub told : AllByRecursion (IsBlock telling named) blocks
   pub wrote : PutsLines lines lines' (blocks_text telling.printing named blocks)
   pub tallied : tally' ≡ tally_from tally blocks
   pub added : firsts' ≡ firsts_after firsts (faults_in blocks)
+  pub marked : AddsMarks marks marks' (marks_of telling.printing named blocks)
 
 -- ---- the file
 
@@ -114,12 +127,22 @@ Tells options octets ending text tally firsts count fault =
     ⊎ ((text ≡ []) × (tally ≡ no_tally) × (firsts ≡ []) × (count ≡ 0)
     × (fault ≡ Some no_memory))
 
+-- what is known of the stretches of these sessions that are judged and not left out
+abbrev pub told_marks : (options : CaptureOptions) {octets : List ℕ} {ending : Ending}
+    {text : List ℕ} {tally : Tally} {firsts : List (Option CaptureFault)} {count : ℕ}
+    {fault : Option CaptureFault} → Tells options octets ending text tally firsts count fault
+    → List MarkValue
+told_marks options (inl told) = marks_of options.printing told.0.named told.0.blocks
+told_marks options (inr none) = []
+
 pub record PutsFile {Y T : Type 0} {sink : sinks.Ghosts T} (options : CaptureOptions)
     (octets : List ℕ) (ending : Ending) (lines lines' : CheckLines Y T sink) (tally : Tally)
-    (firsts : List (Option CaptureFault)) (count : ℕ) (fault : Option CaptureFault) : Type 0 where
+    (firsts : List (Option CaptureFault)) (count : ℕ) (fault : Option CaptureFault)
+    (marks marks' : StretchMarks Y) : Type 0 where
   pub text : List ℕ
   pub wrote : PutsLines lines lines' text
   pub tells : Tells options octets ending text tally firsts count fault
+  pub marked : AddsMarks marks marks' (told_marks options tells)
 
 -- that there is no session, if nothing else is printed
 abbrev pub nothing_text : Tally → List ℕ
@@ -136,20 +159,15 @@ nothing_where false incomplete None = Some (record { is_incomplete = incomplete 
 abbrev pub nothing_by : Tally → Option CaptureFault → Option NothingJudged
 nothing_by tally fault = nothing_where (has_verdict tally) (is_incomplete tally) fault
 
--- A source is held, and its sessions are printed, so many, and why it isn't read to its end; then
--- that there is none, if so, and last how many ends there are of each verdict. All of that was
--- written, if the sink didn't fail. Of all refusals those are answered that are the first of their
--- number.
-pub record ChecksCapture {S T : Type 0} (gives : S → S → List ℕ → Type 0) (has_ended : S → Bool)
-    (takes : T → T → List ℕ → Type 0) (source_failures : S → ℕ) (failures : T → ℕ)
-    (options : CaptureOptions) (source source' : S) (sink sink' : T) (status : ℕ)
+-- The sessions of these octets are printed, so many, and why the file isn't read to its end, if it
+-- isn't; then that there is none, if so, and last how many ends there are of each verdict. All of
+-- that was written, if the sink didn't fail. Of all refusals those are answered that are the first
+-- of their number.
+pub record ChecksHeld {T : Type 0} (takes : T → T → List ℕ → Type 0) (failures : T → ℕ)
+    (options : CaptureOptions) (octets : List ℕ) (ending : Ending) (sink sink' : T) (status : ℕ)
     (firsts : List (Option CaptureFault)) (count : ℕ) (fault : Option CaptureFault)
     (nothing : Option NothingJudged) : Type 0
   where
-    pub octets : List ℕ
-    pub ending : Ending
-    pub held : IsHeld gives has_ended source source' octets ending
-    pub counted : source_failures source' ≡ source_failures source + failures_by ending
     pub text : List ℕ
     pub of_sessions : Tally
     pub of_blocks : List (Option CaptureFault)
@@ -162,3 +180,27 @@ pub record ChecksCapture {S T : Type 0} (gives : S → S → List ℕ → Type 0
         (text ++ (fault_text fault ++ (nothing_text tally
         ++ last_text options.printing.quiet tally)))
         (status_of tally) sink sink' status
+
+-- And of these sessions it is known which records of each stretch were judged, and where a no
+-- stands.
+pub record ChecksMarked {T Y : Type 0} (takes : T → T → List ℕ → Type 0) (failures : T → ℕ)
+    (options : CaptureOptions) (octets : List ℕ) (ending : Ending) (sink sink' : T) (status : ℕ)
+    (firsts : List (Option CaptureFault)) (count : ℕ) (fault : Option CaptureFault)
+    (nothing : Option NothingJudged) (marks marks' : StretchMarks Y) : Type 0 where
+  pub checks : ChecksHeld takes failures options octets ending sink sink' status firsts count
+      fault nothing
+  pub marked : AddsMarks marks marks' (told_marks options checks.tells)
+
+-- A source is held, and what it gave is checked.
+pub record ChecksCapture {S T : Type 0} (gives : S → S → List ℕ → Type 0) (has_ended : S → Bool)
+    (takes : T → T → List ℕ → Type 0) (source_failures : S → ℕ) (failures : T → ℕ)
+    (options : CaptureOptions) (source source' : S) (sink sink' : T) (status : ℕ)
+    (firsts : List (Option CaptureFault)) (count : ℕ) (fault : Option CaptureFault)
+    (nothing : Option NothingJudged) : Type 0
+  where
+    pub octets : List ℕ
+    pub ending : Ending
+    pub held : IsHeld gives has_ended source source' octets ending
+    pub counted : source_failures source' ≡ source_failures source + failures_by ending
+    pub checks : ChecksHeld takes failures options octets ending sink sink' status firsts count
+        fault nothing

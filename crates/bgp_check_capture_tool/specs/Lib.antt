@@ -8,6 +8,7 @@ pub mod Ends
 pub mod Text
 pub mod Counted
 pub mod Firsts
+pub mod Marks
 pub mod Putting
 pub mod Checking
 pub mod Headings

@@ -146,8 +146,19 @@ pub record HasTrueNoes (options : CaptureOptions) (octets : List ℕ) (fault : O
   pub noes : AllByRecursion (NoesAreTrue options.printing.routes named) blocks
   pub is_text : text ≡ blocks_text options.printing named blocks
 
--- These octets are held of the source. What is written is such a text, or none, and behind it no
--- line of a session.
+-- What is written of these octets is such a text, or none, and behind it no line of a session.
+pub record WritesTrueNoes {T : Type 0} (takes : T → T → List ℕ → Type 0) (failures : T → ℕ)
+    (options : CaptureOptions) (octets : List ℕ) (sink sink' : T) (status : ℕ)
+    (fault : Option CaptureFault) : Type 0 where
+  pub text : List ℕ
+  pub noes : HasTrueNoes options octets fault text ⊎ (text ≡ [])
+  pub tally : Tally
+  pub written : IsWrittenIn options.form takes failures
+      (text ++ (fault_text fault ++ (nothing_text tally
+      ++ last_text options.printing.quiet tally)))
+      (status_of tally) sink sink' status
+
+-- These octets are held of the source, and of them that is written.
 pub record PrintsTrueNoes {S T : Type 0} (gives : S → S → List ℕ → Type 0) (has_ended : S → Bool)
     (takes : T → T → List ℕ → Type 0) (failures : T → ℕ) (options : CaptureOptions)
     (source source' : S) (sink sink' : T) (status : ℕ) (fault : Option CaptureFault) : Type 0
@@ -155,13 +166,7 @@ pub record PrintsTrueNoes {S T : Type 0} (gives : S → S → List ℕ → Type 
     pub octets : List ℕ
     pub ending : Ending
     pub held : IsHeld gives has_ended source source' octets ending
-    pub text : List ℕ
-    pub noes : HasTrueNoes options octets fault text ⊎ (text ≡ [])
-    pub tally : Tally
-    pub written : IsWrittenIn options.form takes failures
-        (text ++ (fault_text fault ++ (nothing_text tally
-        ++ last_text options.printing.quiet tally)))
-        (status_of tally) sink sink' status
+    pub writes : WritesTrueNoes takes failures options octets sink sink' status fault
 
 -- ---- the law
 

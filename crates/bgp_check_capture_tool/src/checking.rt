@@ -12,7 +12,7 @@ ghost use Rattle.mrt_sessions.specs.Sessions.{HoldsSessions, held_records, recor
 ghost use Rattle.mrt_sessions.specs.Sessions.{sessions_in};
 ghost use Rattle.bgp_check_lines.specs.Lines.{PutsLines};
 ghost use Rattle.bgp_check_lines.specs.Tally.{no_tally};
-ghost use Rattle.bgp_check_capture_tool.specs.Checking.{ChecksCapture, PutsBlocks, PutsFile};
+ghost use Rattle.bgp_check_capture_tool.specs.Checking.{ChecksMarked, PutsBlocks, PutsFile};
 ghost use Rattle.bgp_check_capture_tool.specs.Checking.{nothing_by, nothing_text};
 ghost use Rattle.bgp_check_capture_tool.specs.Firsts.{AreApart};
 ghost use Rattle.bgp_check_capture_tool.specs.Putting.{Adds, PutsSession};
@@ -20,6 +20,7 @@ ghost use Rattle.bgp_check_capture_tool.specs.Putting.{Adds, PutsSession};
 use crate::counted::Counted;
 use crate::ends::{NO_MEMORY, put_ends, put_heading};
 use crate::firsts::NUMBERS;
+use crate::marks::StretchMarks;
 use crate::nothing::NothingJudged;
 use crate::options::CaptureOptions;
 use crate::telling::Telling;
@@ -27,8 +28,8 @@ use arrayvec::ArrayVec;
 use bgp_check_lines::{CheckLines, Tally, put_fault, put_last, put_no_record};
 use bgp_judge::Tracker;
 use bgp_tool::{CaptureCommand, Note, without_records};
-use mrt::{CaptureFault, Sink, Source};
-use mrt_sessions::{Addresses, Ending, NamedRecord, Sessions, hold, records_in};
+use mrt::{CaptureFault, Sink};
+use mrt_sessions::{Addresses, Ending, Held, NamedRecord, Sessions, records_in};
 use std::alloc::Allocator;
 
 /// How checking a capture ended.
@@ -85,69 +86,82 @@ fn put_end_of<A: Allocator + Copy, W: Sink>(
 }
 
 /// Puts what is told of the session that has these records in a file, and counts it.
-fn put_one<A: Allocator + Copy, T: Tracker<A>, W: Sink>(
+fn put_one<'a, A: Allocator + Copy, T: Tracker<A>, W: Sink>(
     alloc: A,
     addresses: Addresses,
-    named: &[NamedRecord<'_>],
+    named: &[NamedRecord<'a>],
     telling: Telling,
     lines: &mut CheckLines<'_, A, W>,
     counted: &mut Counted,
+    marks: &mut StretchMarks<'a, A>,
 )
     requires mine { records_between addresses (map located named.now) ≡ map located named.now }
     requires apart { AreApart counted.old.refusals.items }
     ensures puts { PutsSession telling addresses (map located named.now) lines.old lines.new
         counted.old.tally counted.new.tally counted.old.refusals.items
-        counted.new.refusals.items }
+        counted.new.refusals.items marks.old marks.new }
     ensures apart { AreApart counted.new.refusals.items }
 {
     put_heading(lines, addresses, named, telling.printing.quiet);
     let tally = counted.tally;
-    let (put, fault) = put_ends::<A, T, W>(alloc, addresses, named, telling, lines, tally);
+    let (put, fault) = put_ends::<A, T, W>(alloc, addresses, named, telling, lines, tally, marks);
     put_end_of(lines, addresses, named, put.is_headed, fault);
     counted.tally = put.tally;
     counted.add_fault(fault);
 }
 
 /// Puts what is told of one of the sessions, and counts it.
-fn put_held<A: Allocator + Copy, T: Tracker<A>, W: Sink>(
+fn put_held<'a, A: Allocator + Copy, T: Tracker<A>, W: Sink>(
     alloc: A,
-    sessions: &Sessions<'_, A>,
+    sessions: &Sessions<'a, A>,
     addresses: Addresses,
     telling: Telling,
     lines: &mut CheckLines<'_, A, W>,
     counted: &mut Counted,
+    marks: &mut StretchMarks<'a, A>,
 )
     requires mine { records_between addresses (held_records sessions.now addresses)
         ≡ held_records sessions.now addresses }
     requires apart { AreApart counted.old.refusals.items }
     ensures puts { PutsSession telling addresses (held_records sessions.now addresses) lines.old
         lines.new counted.old.tally counted.new.tally counted.old.refusals.items
-        counted.new.refusals.items }
+        counted.new.refusals.items marks.old marks.new }
     ensures apart { AreApart counted.new.refusals.items }
 {
     match sessions.records(addresses) {
-        Some(records) => put_one::<A, T, W>(alloc, addresses, records, telling, lines, counted),
-        None => put_one::<A, T, W>(alloc, addresses, &[], telling, lines, counted),
+        Some(records) => {
+            put_one::<A, T, W>(alloc, addresses, records, telling, lines, counted, marks);
+        }
+        None => put_one::<A, T, W>(alloc, addresses, &[], telling, lines, counted, marks),
     }
 }
 
 /// Puts what is told of all sessions, in the order of their first records, and answers what is
 /// counted of it.
-fn put_sessions<A: Allocator + Copy, T: Tracker<A>, W: Sink>(
+fn put_sessions<'a, A: Allocator + Copy, T: Tracker<A>, W: Sink>(
     alloc: A,
-    sessions: &Sessions<'_, A>,
+    sessions: &Sessions<'a, A>,
     telling: Telling,
     lines: &mut CheckLines<'_, A, W>,
+    marks: &mut StretchMarks<'a, A>,
 ) -> Counted
     requires { (named : List Located) × HoldsSessions named sessions.now }
     ensures puts { (named : List Located) → HoldsSessions named sessions.now
         → PutsBlocks telling named (sessions_in named) lines.old lines.new no_tally result.tally
-        [] result.refusals.items }
+        [] result.refusals.items marks.old marks.new }
     ensures apart { AreApart result.refusals.items }
 {
     let mut counted = Counted::new();
     for addresses in sessions.in_order() {
-        put_held::<A, T, W>(alloc, sessions, *addresses, telling, lines, &mut counted);
+        put_held::<A, T, W>(
+            alloc,
+            sessions,
+            *addresses,
+            telling,
+            lines,
+            &mut counted,
+            marks,
+        );
     }
     counted
 }
@@ -179,15 +193,17 @@ impl PutFile {
 }
 
 /// Puts what is told of all sessions whose records these octets have.
-fn put_file<A: Allocator + Copy, T: Tracker<A>, W: Sink>(
+fn put_file<'a, A: Allocator + Copy, T: Tracker<A>, W: Sink>(
     alloc: A,
-    octets: &[u8],
+    octets: &'a [u8],
     ending: Ending,
     options: &CaptureOptions,
     lines: &mut CheckLines<'_, A, W>,
+    marks: &mut StretchMarks<'a, A>,
 ) -> PutFile
-    ensures puts { PutsFile options.now octets.now ending lines.old lines.new
-        result.counted.tally result.counted.refusals.items result.sessions result.fault }
+    ensures puts { PutsFile options.now octets.entry.now ending lines.old lines.new
+        result.counted.tally result.counted.refusals.items result.sessions result.fault
+        marks.old marks.new }
     ensures apart { AreApart result.counted.refusals.items }
 {
     let Ok(file) = records_in(alloc, octets) else {
@@ -198,7 +214,7 @@ fn put_file<A: Allocator + Copy, T: Tracker<A>, W: Sink>(
     };
     let fault = file.fault(ending);
     let telling = Telling::of(options, file.is_plain, fault);
-    let counted = put_sessions::<A, T, W>(alloc, &sessions, telling, lines);
+    let counted = put_sessions::<A, T, W>(alloc, &sessions, telling, lines, marks);
     PutFile {
         counted,
         sessions: sessions.in_order().len(),
@@ -226,21 +242,20 @@ fn nothing_by(tally: Tally, fault: Option<CaptureFault>) -> Option<NothingJudged
     }
 }
 
-/// Holds the capture, and checks all sessions in it: what [`check_capture`](crate::check_capture)
-/// is made of, on whose page its sentence stands.
-pub(crate) fn check_capture<A: Allocator + Copy, T: Tracker<A>, R: Source, W: Sink>(
+/// Checks all sessions in a capture that is held: what
+/// [`check_capture_marking`](crate::check_capture_marking) is made of.
+pub(crate) fn check_held<'a, A: Allocator + Copy, T: Tracker<A>, W: Sink>(
     alloc: A,
     options: &CaptureOptions,
-    source: &mut R,
+    held: &'a Held<A>,
     sink: &mut W,
+    marks: &mut StretchMarks<'a, A>,
 ) -> CheckedCapture
-    requires source { R.failures source.old < u64.MAX }
-    requires sink { W.failures sink.old < u64.MAX }
-    ensures { ChecksCapture R.gives R.has_ended W.takes R.failures W.failures options.now
-        source.old source.new sink.old sink.new result.status result.refusals.items
-        result.sessions result.fault result.nothing }
+    requires { W.failures sink.old < u64.MAX }
+    ensures { ChecksMarked W.takes W.failures options.now held.entry.now.octets.items
+        held.entry.now.ending sink.old sink.new result.status result.refusals.items
+        result.sessions result.fault result.nothing marks.old marks.new }
 {
-    let held = hold(alloc, source);
     let mut lines = CheckLines::new(options.form, alloc, sink);
     let PutFile {
         mut counted,
@@ -252,6 +267,7 @@ pub(crate) fn check_capture<A: Allocator + Copy, T: Tracker<A>, R: Source, W: Si
         held.ending,
         options,
         &mut lines,
+        marks,
     );
     put_fault(&mut lines, fault);
     counted.add_fault(fault);

@@ -1,6 +1,7 @@
 //! What is told of a session, end by end.
 
-ghost use Rattle.std.specs.Prelude.{◌≡◌, ℕ, List, [], true, if◌then◌else◌, map, not};
+ghost use Rattle.std.specs.Prelude.{◌≡◌, ◌+◌, ◌<◌, ℕ, List, [], true, if◌then◌else◌, map, not};
+ghost use Rattle.std.specs.List.{AllByRecursion};
 ghost use Rattle.mrt.specs.Reader.{shown_of};
 ghost use Rattle.mrt_sessions.specs.Located.{located};
 ghost use Rattle.mrt_sessions.specs.Sessions.{records_between};
@@ -10,6 +11,7 @@ ghost use Rattle.bgp_check_lines.specs.Tally.{with_unjudged};
 ghost use Rattle.bgp_check_lines.specs.Sessions.{session_line};
 ghost use Rattle.bgp_check_capture_tool.specs.Ends.{IsSessionTold, Stretch, addresses_of};
 ghost use Rattle.bgp_check_capture_tool.specs.Ends.{front_ends, session_of, silent_ends};
+ghost use Rattle.bgp_check_capture_tool.specs.Marks.{AddsMarks, end_marks};
 ghost use Rattle.bgp_check_capture_tool.specs.Putting.{Adds, Puts, RecordsUpTo, StretchesUpTo};
 ghost use Rattle.bgp_check_capture_tool.specs.Putting.{heading_of};
 ghost use Rattle.bgp_check_capture_tool.specs.StretchEnd.{stretch_value, view_value};
@@ -17,6 +19,7 @@ ghost use Rattle.bgp_check_capture_tool.specs.Text.{ends_text, kept_text};
 
 use crate::cutting::{first_of, first_stretch};
 use crate::lines::{put_silent, put_staying, put_stretch};
+use crate::marks::StretchMarks;
 use crate::stretch_end::{StretchEnd, View, end_of};
 use crate::telling::Telling;
 use bgp_check::{before_leaving, extended_messages, sends_some};
@@ -46,7 +49,7 @@ fn session_of(addresses: Addresses) -> Session
 }
 
 /// The addresses between which a session is.
-fn addresses_of(session: &Session) -> Addresses
+pub(crate) fn addresses_of(session: &Session) -> Addresses
     ensures { result ≡ addresses_of session.now }
 {
     Addresses {
@@ -177,35 +180,46 @@ fn put_kept<A: Allocator + Copy, W: Sink>(
     }
 }
 
-/// Puts what is told of a stretch, unless it is left out, and counts it.
-fn put_told<A: Allocator + Copy, W: Sink>(
+/// Puts what is told of a stretch, unless it is left out, and counts it. What is known of it is
+/// added to the marks.
+fn put_told<'a, A: Allocator + Copy, W: Sink>(
+    alloc: A,
     lines: &mut CheckLines<'_, A, W>,
     view: &View<'_>,
-    end: StretchEnd<'_, A>,
+    end: StretchEnd<'a, A>,
     so_far: Put,
+    marks: &mut StretchMarks<'a, A>,
 ) -> Put
+    requires { AllByRecursion (λ place. end.part.before + place < usize.MAX)
+        end.told.places.items }
     ensures adds { Adds (heading_of (view_value view.now)) lines.old lines.new
         so_far.is_headed result.is_headed (kept_text view.now.telling.printing
         view.now.session.local (Stretch (stretch_value end.entry))) }
     ensures tallied { result.tally ≡ with_one so_far.tally (Stretch (stretch_value end.entry)) }
+    ensures marked { AddsMarks marks.old marks.new (end_marks view.now.telling.printing.quiet
+        (addresses_of view.now.session) (map located view.now.named.now)
+        (Stretch (stretch_value end.entry))) }
 {
-    Put {
+    let put = Put {
         tally: so_far.tally.with_end(&end.told.answer),
         is_headed: put_kept(lines, view, &end, so_far.is_headed),
-    }
+    };
+    marks.add_end(alloc, view, end);
+    put
 }
 
 /// Puts what is told of the stretches of these records and of what stands before them, and answers
 /// what was put, and whether that is all: it isn't where memory was refused.
-fn put_stretches<A: Allocator + Copy, T: Tracker<A>, W: Sink>(
+fn put_stretches<'a, A: Allocator + Copy, T: Tracker<A>, W: Sink>(
     alloc: A,
     view: &View<'_>,
-    records: &[Record<'_>],
+    records: &[Record<'a>],
     lines: &mut CheckLines<'_, A, W>,
     tally: Tally,
+    marks: &mut StretchMarks<'a, A>,
 ) -> (Put, bool)
-    ensures { Puts (heading_of (view_value view.now)) view.now.telling.printing
-        view.now.session.local lines.old lines.new tally result.0
+    ensures { Puts view.now.telling.printing (addresses_of view.now.session)
+        (map located view.now.named.now) lines.old lines.new tally result.0 marks.old marks.new
         (StretchesUpTo (view_value view.now) (map shown_of records.now) result.1) }
 {
     let (front, mut rest) = records.split_at(before_leaving(records));
@@ -217,7 +231,7 @@ fn put_stretches<A: Allocator + Copy, T: Tracker<A>, W: Sink>(
         let Ok(end) = end_of::<A, T>(alloc, view, before, stretch, leaving) else {
             return (so_far, false);
         };
-        so_far = put_told(lines, view, end, so_far);
+        so_far = put_told(alloc, lines, view, end, so_far, marks);
         before = records.len() - behind.len();
         rest = behind;
     }
@@ -225,19 +239,20 @@ fn put_stretches<A: Allocator + Copy, T: Tracker<A>, W: Sink>(
 }
 
 /// Puts what is told of all of these records, and answers what was put, and whether that is all.
-fn put_records<A: Allocator + Copy, T: Tracker<A>, W: Sink>(
+fn put_records<'a, A: Allocator + Copy, T: Tracker<A>, W: Sink>(
     alloc: A,
     view: &View<'_>,
-    records: &[Record<'_>],
+    records: &[Record<'a>],
     lines: &mut CheckLines<'_, A, W>,
     tally: Tally,
+    marks: &mut StretchMarks<'a, A>,
 ) -> (Put, bool)
-    ensures { Puts (heading_of (view_value view.now)) view.now.telling.printing
-        view.now.session.local lines.old lines.new tally result.0
+    ensures { Puts view.now.telling.printing (addresses_of view.now.session)
+        (map located view.now.named.now) lines.old lines.new tally result.0 marks.old marks.new
         (RecordsUpTo (view_value view.now) (map shown_of records.now) result.1) }
 {
     if sends_some(records) {
-        put_stretches::<A, T, W>(alloc, view, records, lines, tally)
+        put_stretches::<A, T, W>(alloc, view, records, lines, tally, marks)
     } else {
         let put = put_all_silent(lines, view, records, Put::new(view, tally));
         (put, true)
@@ -247,17 +262,18 @@ fn put_records<A: Allocator + Copy, T: Tracker<A>, W: Sink>(
 /// Puts what is told of the session that has these records in a file, and answers what was put, and
 /// why not all of them are read, if they aren't. Its own line is put before, unless what is well is
 /// left out.
-pub(crate) fn put_ends<A: Allocator + Copy, T: Tracker<A>, W: Sink>(
+pub(crate) fn put_ends<'a, A: Allocator + Copy, T: Tracker<A>, W: Sink>(
     alloc: A,
     addresses: Addresses,
-    named: &[NamedRecord<'_>],
+    named: &[NamedRecord<'a>],
     telling: Telling,
     lines: &mut CheckLines<'_, A, W>,
     tally: Tally,
+    marks: &mut StretchMarks<'a, A>,
 ) -> (Put, Option<CaptureFault>)
     requires mine { records_between addresses (map located named.now) ≡ map located named.now }
-    ensures { Puts (session_line addresses (map located named.now)) telling.printing
-        addresses.local lines.old lines.new tally result.0
+    ensures { Puts telling.printing addresses (map located named.now) lines.old lines.new tally
+        result.0 marks.old marks.new
         (λ ends. IsSessionTold telling addresses (map located named.now) ends result.1) }
 {
     let extended = extended_messages(named);
@@ -273,7 +289,7 @@ pub(crate) fn put_ends<A: Allocator + Copy, T: Tracker<A>, W: Sink>(
         session: session_of(addresses),
         named,
     };
-    let (put, is_all) = put_records::<A, T, W>(alloc, &view, &read.records, lines, tally);
+    let (put, is_all) = put_records::<A, T, W>(alloc, &view, &read.records, lines, tally, marks);
     if is_all {
         (put, read.fault)
     } else {

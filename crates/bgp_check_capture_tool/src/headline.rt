@@ -1,10 +1,12 @@
 //! The page to show: what checking a capture promises.
 
 ghost use Rattle.std.specs.Prelude.{◌<◌};
-ghost use Rattle.bgp_check_capture_tool.specs.Checking.{ChecksCapture};
+ghost use Rattle.bgp_check_capture_tool.specs.Checking.{ChecksCapture, ChecksMarked};
 ghost use Rattle.bgp_check_capture_tool.specs.Printed.{PrintsTrueNoes, ToldVerdictIsOverAll};
+ghost use Rattle.bgp_check_capture_tool.specs.Printed.{WritesTrueNoes};
 
-use crate::checking::{self, CheckedCapture};
+use crate::checking::{CheckedCapture, check_held};
+use crate::marks::StretchMarks;
 use crate::options::CaptureOptions;
 use bgp_check::{
     a_left_stretch_is_judged_over_all, a_no_names_its_record, no_configuration_explains_a_no,
@@ -12,6 +14,7 @@ use bgp_check::{
 };
 use bgp_judge::Tracker;
 use mrt::{Sink, Source};
+use mrt_sessions::{Held, hold};
 use std::alloc::Allocator;
 
 /// Checks the local system of each session in a capture, stretch by stretch: whether its records
@@ -62,10 +65,35 @@ pub fn check_capture<A: Allocator + Copy, T: Tracker<A>, R: Source, W: Sink>(
         source.old source.new sink.old sink.new result.status result.refusals.items
         result.sessions result.fault result.nothing }
 {
+    let held = hold(alloc, source);
+    let mut marks = StretchMarks::unkept(alloc);
+    check_capture_marking::<A, T, W>(alloc, options, &held, sink, &mut marks)
+}
+
+/// Checks a capture that is held as [`check_capture`] does, and adds to `marks` what is known of
+/// each stretch whose verdict is printed, in the order of these: the records that are judged, their
+/// numbers in the session, and at which of them a no stands. The records are octets of the file.
+///
+/// If memory is refused for this of one stretch, `marks` says that some are missing; what is printed
+/// stays the same.
+pub fn check_capture_marking<'a, A: Allocator + Copy, T: Tracker<A>, W: Sink>(
+    alloc: A,
+    options: &CaptureOptions,
+    held: &'a Held<A>,
+    sink: &mut W,
+    marks: &mut StretchMarks<'a, A>,
+) -> CheckedCapture
+    requires { W.failures sink.old < u64.MAX }
+    ensures no { WritesTrueNoes W.takes W.failures options.now held.entry.now.octets.items
+        sink.old sink.new result.status result.fault }
+    ensures all { ChecksMarked W.takes W.failures options.now held.entry.now.octets.items
+        held.entry.now.ending sink.old sink.new result.status result.refusals.items
+        result.sessions result.fault result.nothing marks.old marks.new }
+{
     no_configuration_explains_a_no();
     what_is_judged_is_a_stretch();
     a_no_names_its_record();
-    checking::check_capture::<A, T, R, W>(alloc, options, source, sink)
+    check_held::<A, T, W>(alloc, options, held, sink, marks)
 }
 
 /// Law: each verdict that is told of a stretch, a yes, a no and an unfinished, is the one over all

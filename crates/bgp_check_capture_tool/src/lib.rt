@@ -7,6 +7,16 @@
 //!     check_capture::<_, CompactTracker<_>, _, _>(alloc, &options, &mut source, &mut sink);
 //! std::process::exit(checked.status);
 //! ```
+//!
+//! Who wants the records that were judged besides holds the file and hands in a list for them:
+//!
+//! ```text
+//! let held = hold(alloc, &mut source);
+//! let mut marks = StretchMarks::new(alloc);
+//! let checked = check_capture_marking::<_, CompactTracker<_>, _>(
+//!     alloc, &options, &held, &mut sink, &mut marks,
+//! );
+//! ```
 #![tactic(auto)]
 
 mod checking;
@@ -18,6 +28,7 @@ mod headline;
 mod judging;
 mod laws;
 mod lines;
+mod marks;
 mod naming;
 mod nothing;
 mod options;
@@ -28,13 +39,16 @@ mod stretch_end;
 mod telling;
 mod told_end;
 
-pub use bgp_check_lines::{Printing, Settings};
+pub use bgp_check_lines::{EndName, NumberedRecord, Printing, Settings};
 pub use checking::CheckedCapture;
-pub use headline::{a_printed_verdict_is_over_all_configurations, check_capture};
+pub use headline::{
+    a_printed_verdict_is_over_all_configurations, check_capture, check_capture_marking,
+};
 pub use laws::{
     a_judge_line_gives_the_verdict, no_configuration_has_a_run, no_verdict_is_vacuous,
     without_its_ends_it_is_the_list,
 };
+pub use marks::{StretchMark, StretchMarks};
 pub use nothing::NothingJudged;
 pub use options::CaptureOptions;
 pub use quiet_laws::quiet_keeps_what_is_not_well;

@@ -6,10 +6,12 @@ use Rattle.mrt_sessions.specs.Sessions.{HoldsSessions}
 use Rattle.mrt_sessions.specs.declared.named.NamedRecord.{NamedRecord}
 use Rattle.bgp_check_lines.specs.Lines.{PutsLines}
 use Rattle.bgp_check_lines.proofs.Puts.{no_lines}
-use Rattle.bgp_check_capture_tool.specs.Checking.{IsBlock, blocks_text}
+use Rattle.bgp_check_capture_tool.specs.Checking.{IsBlock, blocks_text, marks_of}
 use Rattle.bgp_check_capture_tool.specs.Firsts.{AreApart}
+use Rattle.bgp_check_capture_tool.specs.Marks.{AddsMarks}
 use Rattle.bgp_check_capture_tool.specs.declared.telling.Telling.{Telling}
 use Rattle.bgp_check_capture_tool.proofs.Apart.{none_apart}
+use Rattle.bgp_check_capture_tool.proofs.Marked.{adds_nothing}
 use Rattle.bgp_check_capture_tool.proofs.checking.put_file.Goals as goal
 
 pub returns-in_default-clause-puts : goal.returns-in_default-clause-puts
@@ -17,6 +19,7 @@ returns-in_default-clause-puts g c = record {
   text = [];
   wrote = no_lines g.met.W.Sink.nothing c.args.lines.now;
   tells = inr (refl, c.without_memory.ensures.tally, c.without_memory.ensures.refusals, c.without_memory.ensures.sessions, c.without_memory.ensures.fault);
+  marked = adds_nothing c.args.marks.now;
 }
 
 pub returns-in_default-of-clause-puts : goal.returns-in_default-of-clause-puts
@@ -24,6 +27,7 @@ returns-in_default-of-clause-puts g c = record {
   text = [];
   wrote = no_lines g.met.W.Sink.nothing c.args.lines.now;
   tells = inr (refl, c.without_memory-in_default-of.ensures.tally, c.without_memory-in_default-of.ensures.refusals, c.without_memory-in_default-of.ensures.sessions, c.without_memory-in_default-of.ensures.fault);
+  marked = adds_nothing c.args.marks.now;
 }
 
 pub returns-in_default-clause-apart : goal.returns-in_default-clause-apart
@@ -60,4 +64,5 @@ returns-clause-puts g c =
         },
         ap length (c.in_order.ensures ∙ holds.in_order),
       );
+      marked = subst (λ (telling : Telling). AddsMarks c.args.marks.now c.put_sessions-counted.new.marks (marks_of telling.printing named puts.blocks)) c.of-telling.ensures puts.marked;
     }

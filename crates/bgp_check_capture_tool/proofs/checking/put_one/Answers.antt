@@ -20,4 +20,5 @@ returns-clause-puts g c =
           (adds_then law heading c.put_heading.new.lines c.put_ends-fault.new.lines c.put_end_of.new.lines _ _ _ _ _ puts.adds c.put_end_of.ensures);
       tallied = c.add_fault.ensures.tallied ∙ ap (λ (t : Tally). with_fault t c.put_ends-fault.result.1) puts.tallied;
       added = c.add_fault.ensures.added;
+      marked = puts.marked;
     }

@@ -10,6 +10,6 @@ use Rattle.bgp_check_capture_tool.proofs.checking.put_sessions.Given as goal
 abbrev pub invariant-loop-addresses : goal.invariant-loop-addresses
 invariant-loop-addresses g l = record {
   puts : (named : List Located) → HoldsSessions named l.sessions
-      → PutsBlocks l.telling named (take l.addresses-index (held_sessions l.sessions)) l.fn.lines l.lines no_tally l.counted.tally [] l.counted.refusals.items;
+      → PutsBlocks l.telling named (take l.addresses-index (held_sessions l.sessions)) l.fn.lines l.lines no_tally l.counted.tally [] l.counted.refusals.items l.fn.marks l.marks;
   apart : AreApart l.counted.refusals.items;
 }

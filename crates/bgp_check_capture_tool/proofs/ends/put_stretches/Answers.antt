@@ -11,6 +11,7 @@ use Rattle.bgp_check_capture_tool.specs.Putting.{Adds, heading_of}
 use Rattle.bgp_check_capture_tool.specs.Text.{ends_text}
 use Rattle.bgp_check_capture_tool.specs.StretchEnd.{IsStretchEnd, stretch_value, view_value}
 use Rattle.bgp_check_capture_tool.proofs.Fronts.{left_are, taken_are}
+use Rattle.bgp_check_capture_tool.proofs.Few.{few_numbers}
 use Rattle.bgp_check_capture_tool.proofs.ToldSoFar.{SoFar, both_lengths, none_left, none_told, one_told, shorter, told_up_to}
 use Rattle.bgp_check_capture_tool.proofs.ends.put_stretches.Goals as goal
 
@@ -23,7 +24,7 @@ loop-rest-init g c =
     let front_len = c.split_at.ensures.front_len in
     let back_len = c.split_at.ensures.back_len in
     record {
-      so_far = none_told (heading_of (view_value c.args.view.now)) c.args.view.now.telling.printing (view_value c.args.view.now) (map shown_of c.args.records.now) (map shown_of c.split_at.result.0.now) (map shown_of c.split_at.result.1.now) n _ c.args.lines.now _ c.args.tally _
+      so_far = none_told c.args.view.now.telling.printing (view_value c.args.view.now) (map shown_of c.args.records.now) (map shown_of c.split_at.result.0.now) (map shown_of c.split_at.result.1.now) n _ c.args.lines.now _ c.args.tally _ c.args.marks.now
           (sym (length-map c.split_at.result.0.now shown_of)) is front rest
           (subst (λ (h : Bool). Adds (heading_of (view_value c.args.view.now)) c.args.lines.now c.put_front-so_far.new.lines h c.put_front-so_far.result.is_headed (ends_text c.args.view.now.telling.printing c.args.view.now.session.local (front_ends (map shown_of c.split_at.result.0.now)))) c.new.ensures.is_headed (c.put_front-so_far.ensures.adds (heading_of (view_value c.args.view.now))))
           (c.put_front-so_far.ensures.tallied ∙ ap (λ (t : Tally). with_ends t (front_ends (map shown_of c.split_at.result.0.now))) c.new.ensures.tally);
@@ -43,7 +44,7 @@ end_of-requires g c =
 
 pub returns-in_default : goal.returns-in_default
 returns-in_default g c =
-    told_up_to (heading_of (view_value c.args.view.now)) c.args.view.now.telling.printing (view_value c.args.view.now) (map shown_of c.args.records.now) (map shown_of c.loop-rest.rest.now) c.loop-rest.before false c.args.lines.now _ c.args.tally _ (
+    told_up_to c.args.view.now.telling.printing (view_value c.args.view.now) (map shown_of c.args.records.now) (map shown_of c.loop-rest.rest.now) c.loop-rest.before false c.args.lines.now _ c.args.tally _ c.args.marks.now _ (
       λ no. absurd (let k : ⊥ = cc in k),
       λ none.
           let less = shorter (map shown_of c.loop-rest.rest.now) (map shown_of c.first_stretch.result.0.now) (map shown_of c.first_stretch.result.1.now) c.first_stretch.ensures in
@@ -66,12 +67,19 @@ loop-rest-smaller g c =
     let other = length-map c.first_stretch.result.1.now shown_of in
     omega (arith, less, one, other)
 
+pub put_told-so_far-requires : goal.put_told-so_far-requires
+put_told-so_far-requires g c =
+    let lengths = both_lengths (map shown_of c.loop-rest.rest.now) (map shown_of c.first_stretch.result.0.now) (map shown_of c.first_stretch.result.1.now) c.first_stretch.ensures in
+    let one = length-map c.loop-rest.rest.now shown_of in
+    let other = length-map c.first_stretch.result.0.now shown_of in
+    let all = c.loop-rest.invariant.all in
+    few_numbers (view_value c.args.view.now) c.loop-rest.before (map shown_of c.first_stretch.result.0.now) _ (stretch_value c.in-Ok.end) (omega (arith, lengths, one, other, all)) c.in-Ok.ensures
+
 pub loop-rest-preserved : goal.loop-rest-preserved
 loop-rest-preserved g c =
     let law : Joins g.W.Sink = record { joined = g.met.W.Sink.joined } in
     let view = view_value c.args.view.now in
     let printing = c.args.view.now.telling.printing in
-    let heading = heading_of view in
     let records = map shown_of c.args.records.now in
     let rest = map shown_of c.loop-rest.rest.now in
     let stretch = map shown_of c.first_stretch.result.0.now in
@@ -81,20 +89,20 @@ loop-rest-preserved g c =
     let end = stretch_value c.in-Ok.end in
     let len : length stretch ≡ count = length-map c.first_stretch.result.0.now shown_of in
     let is_end = subst (λ (o : Option ShownRecord). IsStretchEnd view before stretch o end) c.first_of-leaving.ensures c.in-Ok.ensures in
-    let more = one_told law heading printing view records rest stretch behind before count (Stretch end)
-    c.args.lines.now c.loop-rest.lines _ c.args.tally c.loop-rest.so_far _ c.loop-rest.invariant.so_far c.first_stretch.ensures (sym len) is_end
-    c.put_told-so_far.ensures.adds c.put_told-so_far.ensures.tallied in
+    let more = one_told law printing view records rest stretch behind before count (Stretch end)
+    c.args.lines.now c.loop-rest.lines _ c.args.tally c.loop-rest.so_far _ c.args.marks.now c.loop-rest.marks _ c.loop-rest.invariant.so_far c.first_stretch.ensures (sym len) is_end
+    c.put_told-so_far.ensures.adds c.put_told-so_far.ensures.tallied c.put_told-so_far.ensures.marked in
     let lengths = both_lengths rest stretch behind c.first_stretch.ensures in
     let one = length-map c.loop-rest.rest.now shown_of in
     let other = length-map c.first_stretch.result.1.now shown_of in
     let all = c.loop-rest.invariant.all in
     let same : before + count ≡ length c.args.records.now - length c.first_stretch.result.1.now = omega (arith, lengths, one, other, all, len) in
     record {
-      so_far = subst (λ (n : ℕ). SoFar heading printing view records behind n c.args.lines.now c.put_told-so_far.new.lines c.args.tally c.put_told-so_far.result) same more;
+      so_far = subst (λ (n : ℕ). SoFar printing view records behind n c.args.lines.now c.put_told-so_far.new.lines c.args.tally c.put_told-so_far.result c.args.marks.now c.put_told-so_far.new.marks) same more;
       all = omega (arith, lengths, one, other, all, len);
     }
 
 pub returns : goal.returns
 returns g c =
-    told_up_to (heading_of (view_value c.args.view.now)) c.args.view.now.telling.printing (view_value c.args.view.now) (map shown_of c.args.records.now) (map shown_of c.loop-rest.rest.now) c.loop-rest.before true c.args.lines.now _ c.args.tally _
+    told_up_to c.args.view.now.telling.printing (view_value c.args.view.now) (map shown_of c.args.records.now) (map shown_of c.loop-rest.rest.now) c.loop-rest.before true c.args.lines.now _ c.args.tally _ c.args.marks.now _
     (λ yes. ap (map shown_of) (none_left c.loop-rest.rest.now (eqb-true (length c.loop-rest.rest.now) 0 (sym c.is_empty.ensures ∙ c.loop-rest-test.false))), λ none. refl) c.loop-rest.invariant.so_far
