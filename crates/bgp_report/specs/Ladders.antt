@@ -125,7 +125,7 @@ ladder_of connection framings opening side mark entries = record {
   framings = framings;
   numbering = Packets;
   impossible = place_in mark.no entries;
-  asked = place_in mark.no entries;
+  asked = mark.asked;
 }
 
 -- it is open, or is opened when somebody asks for it

@@ -170,7 +170,7 @@ pub(crate) fn drawn_of<'a, A: Allocator + Copy>(
         framings: made.framings,
         numbering: Numbering::Packets,
         impossible: place_in(mark.no, &made.recording.entries),
-        asked: place_in(mark.no, &made.recording.entries),
+        asked: place_of(mark.asked),
     };
     Ok(Drawn {
         names,
