@@ -59,8 +59,8 @@ use Rattle.bgp_report.specs.Captures as captures
 use Rattle.bgp_report.specs.Captures.{CheckedCapture}
 use Rattle.bgp_report.specs.Captures.{CaptureOptions}
 use Rattle.bgp_report.specs.Pieces.{Piece}
-use Rattle.bgp_report.specs.Report.{Alone, Beside, ChecksWithLadders, Reports, TakesText}
-use Rattle.bgp_report.specs.Report.{never_fails, recording_options}
+use Rattle.bgp_report.specs.Report.{Beside, ChecksWithLadders, ChecksWithStretches, Reports}
+use Rattle.bgp_report.specs.Report.{TakesText, never_fails, recording_options}
 use Rattle.bgp_report.specs.Report.{capture_options as report_options}
 use Rattle.bgp_recording_tool.specs.Files.{DecodesFile, IsPeeked, JudgesFile, is_recording}
 use Rattle.bgp_recording_tool.specs.Files.{peeked_remaining}
@@ -322,16 +322,15 @@ module _ {R W : Type 0} (remaining : R → Option (List ℕ)) (contents : W → 
       (recording_options options) begun read checked.cut_short checked.refusals.items
       checked.refusal checked.nothing))
 
-  -- and of a capture, after whose text nothing stands
+  -- and of a capture; after the text stand the ladders of the stretches
   abbrev pub ReportsRecords : CaptureOptions → CheckedCapture → Ends → Type 0
   ReportsRecords options checked ends = IsCalledWithFront file reader old new ends
-      (λ begun read. Reported checked.status (Alone (λ (text : List ℕ) (code : ℕ).
+      (λ begun read. Reported checked.status (Beside (λ (text : List ℕ) (code : ℕ).
       captures.PrintsTrueNoes (GivesFront remaining) front_ended TakesText never_fails
       (report_options options) begun read [] text code checked.fault))
-      × Reported checked.status (Alone (λ (text : List ℕ) (code : ℕ).
-      ChecksCapture (GivesFront remaining) front_ended TakesText front_failures never_fails
-      (report_options options) begun read [] text code checked.refusals.items checked.sessions
-      checked.fault checked.nothing)))
+      × Reported checked.status (ChecksWithStretches (GivesFront remaining) front_ended
+      front_failures (report_options options) begun read checked.refusals.items checked.sessions
+      checked.fault checked.nothing))
       (IsFileNote commands.Check file checked.sessions checked.fault)
 
 -- ---- by the first four octets

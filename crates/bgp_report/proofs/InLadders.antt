@@ -18,10 +18,12 @@ use Rattle.bgp_text.specs.declared.lines.Lines.{Lines}
 use Rattle.bgp_recording.specs.declared.entry.Entry.{Entry}
 use Rattle.bgp_html.specs.Pieces.{Piece, html_of, piece_html, piece_lines, printed_of}
 use Rattle.bgp_ladder.specs.Ladder.{RowsAreNotPrinted}
+use Rattle.bgp_ladder.specs.declared.numbering.Numbering.{Numbering}
+use Rattle.bgp_ladder.specs.declared.numbering.Numbering.TheVariants.{Packets}
 use Rattle.bgp_ladder.specs.declared.rows.Ladder.{Ladder}
 use Rattle.bgp_check_tool.specs.declared.marks.BothMarks.{BothMarks}
 use Rattle.bgp_check_tool.specs.declared.marks.EndMark.{EndMark}
-use Rattle.bgp_report.specs.Ladders.{AreBehind, AreItsRows, AreLadders, AreOfBoth, IsJudgedEnd, IsOfEnd, behind_both, behind_end, column_of, end_pieces, is_out, ladder_of, sent_at, side_words, some_judged, start_by, start_pieces, summary_words}
+use Rattle.bgp_report.specs.Ladders.{AreBehind, AreItsRows, AreLadders, AreOfBoth, IsJudgedEnd, IsOfEnd, behind_both, behind_end, column_of, end_pieces, is_out, ladder_of, order_words, sent_at, side_words, some_judged, start_by, start_pieces, summary_words}
 
 -- ---- the message behind so many that were sent
 
@@ -103,26 +105,31 @@ in_turn {old = old} {new = new} pieces more rest writes =
     together pieces (more ++ rest) (subst (λ (t : List ℕ). Writes old new (html_of pieces ++ t)) (sym (flat_map-append piece_html more rest)) writes)
 
 -- the words before the rows
-pub start_is : (is_open : Bool) (order : Order) (session : Session) (opening : Opening) (side : Side) (column : Column) (summary left right : List ℕ)
-    → column ≡ column_of opening.opened_by side → summary ≡ summary_words session opening side → left ≡ side_words session opening opening.opened_by
-    → right ≡ side_words session opening (other_side opening.opened_by) → start_by is_open column order summary left right ≡ start_pieces session opening side is_open order
-start_is is_open order session opening side column summary left right in_column in_words is_left is_right =
-    ap (λ (x : Column). start_by is_open x order summary left right) in_column
-    ∙ ap (λ (x : List ℕ). start_by is_open (column_of opening.opened_by side) order x left right) in_words
-    ∙ ap (λ (x : List ℕ). start_by is_open (column_of opening.opened_by side) order (summary_words session opening side) x right) is_left
-    ∙ ap (λ (x : List ℕ). start_by is_open (column_of opening.opened_by side) order (summary_words session opening side) (side_words session opening opening.opened_by) x) is_right
+pub start_is : (is_open : Bool) (order : Order) (session : Session) (opening : Opening) (side : Side) (column : Column) (numbering : Numbering) (words summary left right : List ℕ)
+    → column ≡ column_of opening.opened_by side → numbering ≡ Packets → words ≡ order_words order → summary ≡ summary_words session opening side
+    → left ≡ side_words session opening opening.opened_by → right ≡ side_words session opening (other_side opening.opened_by)
+    → start_by is_open column numbering words summary left right ≡ start_pieces session opening side is_open order
+start_is is_open order session opening side column numbering words summary left right in_column numbered ordered in_words is_left is_right =
+    let its_column = column_of opening.opened_by side in
+    let its_words = summary_words session opening side in
+    ap (λ (x : Column). start_by is_open x numbering words summary left right) in_column
+    ∙ ap (λ (x : Numbering). start_by is_open its_column x words summary left right) numbered
+    ∙ ap (λ (x : List ℕ). start_by is_open its_column Packets x summary left right) ordered
+    ∙ ap (λ (x : List ℕ). start_by is_open its_column Packets (order_words order) x left right) in_words
+    ∙ ap (λ (x : List ℕ). start_by is_open its_column Packets (order_words order) its_words x right) is_left
+    ∙ ap (λ (x : List ℕ). start_by is_open its_column Packets (order_words order) its_words (side_words session opening opening.opened_by) x) is_right
 
 -- ---- no line is printed
 
-both_silent : (pieces more : List Piece) → printed_of pieces ≡ [] → printed_of more ≡ [] → printed_of (pieces ++ more) ≡ []
+pub both_silent : (pieces more : List Piece) → printed_of pieces ≡ [] → printed_of more ≡ [] → printed_of (pieces ++ more) ≡ []
 both_silent pieces more none nor = flat_map-append piece_lines pieces more ∙ ap (λ (o : List ℕ). o ++ printed_of more) none ∙ nor
 
-end_silent : (is_whole : Bool) → printed_of (end_pieces is_whole) ≡ []
+pub end_silent : (is_whole : Bool) → printed_of (end_pieces is_whole) ≡ []
 end_silent true = refl
 end_silent false = refl
 
 module _ (silent : RowsAreNotPrinted) where
-  rows_silent : (ladder : Ladder) (possible : List ℕ) (entries : List Entry) (is_whole : Bool) (rows : List Piece) → AreItsRows ladder possible entries is_whole rows
+  pub rows_silent : (ladder : Ladder) (possible : List ℕ) (entries : List Entry) (is_whole : Bool) (rows : List Piece) → AreItsRows ladder possible entries is_whole rows
       → printed_of rows ≡ []
   rows_silent ladder possible entries true rows are = (silent ladder possible entries [] rows).1 are
   rows_silent ladder possible entries false rows (front, behind, whole, are) = (silent ladder possible front behind rows).0 are
@@ -133,7 +140,7 @@ module _ (silent : RowsAreNotPrinted) where
         ap (λ (ps : List Piece). printed_of ps) its.is
         ∙ both_silent (start_pieces both.session both.opening side is_open mark.order) (its.rows ++ end_pieces its.is_whole) refl
         (both_silent its.rows (end_pieces its.is_whole)
-        (rows_silent (ladder_of connection its.framings both.opening side mark.no its.entries) possible its.entries its.is_whole its.rows its.are_rows) (end_silent its.is_whole))
+        (rows_silent (ladder_of connection its.framings both.opening side mark its.entries) possible its.entries its.is_whole its.rows its.are_rows) (end_silent its.is_whole))
     judged_silent mark pieces (inr lacking) = ap (λ (ps : List Piece). printed_of ps) lacking
 
     of_end_silent : (mark : Option EndMark) (pieces : List Piece) → IsOfEnd port within packets text both side is_open count mark pieces → printed_of pieces ≡ []

@@ -2,3 +2,5 @@ mod Memory
 mod InLadders
 mod Heard
 mod Written
+mod StretchWords
+mod InStretches

@@ -17,13 +17,15 @@ use Rattle.bgp_check_tool.specs.Printed.{PrintsTrue}
 use Rattle.bgp_check_tool.specs.declared.nothing.NothingJudged.{NothingJudged}
 use Rattle.bgp_check_tool.specs.declared.marks.Marks.{Marks}
 use Rattle.bgp_check_tool.specs.declared.options.CheckOptions.{CheckOptions}
-use Rattle.bgp_check_capture_tool.specs.Checking.{ChecksCapture}
-use Rattle.bgp_check_capture_tool.specs.Printed.{PrintsTrueNoes}
+use Rattle.mrt_sessions.specs.declared.holding.Ending.{Ending}
+use Rattle.bgp_check_capture_tool.specs.Checking.{ChecksMarked as CaptureMarked, told_marks}
+use Rattle.bgp_check_capture_tool.specs.Printed.{WritesTrueNoes}
+use Rattle.bgp_check_capture_tool.specs.declared.marks.StretchMarks.{StretchMarks}
 use Rattle.bgp_check_capture_tool.specs.declared.nothing.NothingJudged.{NothingJudged as NoneJudged}
 use Rattle.bgp_check_capture_tool.specs.declared.options.CaptureOptions.{CaptureOptions}
 use Rattle.bgp_report.specs.Ladders.{AreBehind}
-use Rattle.bgp_report.specs.Report.{ChecksWithLadders}
-use Rattle.bgp_report.specs.Report.{TakesText, never_fails}
+use Rattle.bgp_report.specs.Report.{ChecksHeldWithStretches, ChecksWithLadders, TakesText, never_fails}
+use Rattle.bgp_report.specs.Stretches.{AreStretchesBehind}
 
 module _ {T : Type 0} (takes : T → T → List ℕ → Type 0) (from to : T) where
   -- what it took, and that this is printed to memory
@@ -116,46 +118,37 @@ module _ {T : Type 0} (takes : T → T → List ℕ → Type 0) (from to : T) wh
           },
         )
 
-    -- ---- of a capture
+  -- ---- of a capture that is held
 
-    pub printed_of_capture : (options : CaptureOptions) (fault : Option CaptureFault)
-        → PrintsTrueNoes gives has_ended takes (λ (a : T). 0) options source source' from to status fault → options.form ≡ forms.Text
-        → InMemory (λ written. PrintsTrueNoes gives has_ended TakesText never_fails options source source' [] written status fault)
-    printed_of_capture options fault p is =
-        let wrote = written_in options.form is _ _ status p.written in (
+  module _ (options : CaptureOptions) (octets : List ℕ) (status : ℕ) (fault : Option CaptureFault) where
+    pub noes_of_capture : WritesTrueNoes takes (λ (a : T). 0) options octets from to status fault → options.form ≡ forms.Text
+        → InMemory (λ written. WritesTrueNoes TakesText never_fails options octets [] written status fault)
+    noes_of_capture p is =
+        let wrote = written_in options.form is _ _ status p.written in
+        (wrote.0, wrote.1, record { text = p.text; noes = p.noes; tally = p.tally; written = wrote.2 })
+
+    -- with ladders after it, as soon as these are known
+    pub stretched_of : {Y : Type 0} (ending : Ending) (firsts : List (Option CaptureFault)) (count : ℕ) (nothing : Option NoneJudged) (marks marks' : StretchMarks Y)
+        → (p : CaptureMarked takes (λ (a : T). 0) options octets ending from to status firsts count fault nothing marks marks') → options.form ≡ forms.Text
+        → InMemory (λ written. (behind : List Piece) → AreStretchesBehind written (told_marks options p.checks.tells) behind
+        → ChecksHeldWithStretches options octets ending firsts count fault nothing written status behind)
+    stretched_of ending firsts count nothing marks marks' p is =
+        let q = p.checks in
+        let wrote = written_in options.form is _ _ status q.written in (
           wrote.0,
           wrote.1,
-          record {
-            octets = p.octets;
-            ending = p.ending;
-            held = p.held;
-            text = p.text;
-            noes = p.noes;
-            tally = p.tally;
-            written = wrote.2;
-          },
-        )
-
-    pub checked_of_capture : (options : CaptureOptions) (firsts : List (Option CaptureFault)) (count : ℕ) (fault : Option CaptureFault) (nothing : Option NoneJudged)
-        → ChecksCapture gives has_ended takes source_failures (λ (a : T). 0) options source source' from to status firsts count fault nothing → options.form ≡ forms.Text
-        → InMemory (λ written. ChecksCapture gives has_ended TakesText source_failures never_fails options source source' [] written status firsts count fault nothing)
-    checked_of_capture options firsts count fault nothing p is =
-        let wrote = written_in options.form is _ _ status p.written in (
-          wrote.0,
-          wrote.1,
-          record {
-            octets = p.octets;
-            ending = p.ending;
-            held = p.held;
-            counted = p.counted;
-            text = p.text;
-            of_sessions = p.of_sessions;
-            of_blocks = p.of_blocks;
-            tells = p.tells;
-            tally = p.tally;
-            counts = p.counts;
-            are_firsts = p.are_firsts;
-            is_nothing = p.is_nothing;
-            written = wrote.2;
+          λ behind are. record {
+            checks = record {
+              text = q.text;
+              of_sessions = q.of_sessions;
+              of_blocks = q.of_blocks;
+              tells = q.tells;
+              tally = q.tally;
+              counts = q.counts;
+              are_firsts = q.are_firsts;
+              is_nothing = q.is_nothing;
+              written = wrote.2;
+            };
+            ladders = are;
           },
         )

@@ -1,5 +1,5 @@
 -- How a report is written.
-use Rattle.std.proofs.Common.{◌≡◌, ◌∙◌, ◌⊎◌, ◌++◌, ℕ, List, [], IsFalse, IsTrue, Option, None, ap, append-nil, subst, sym}
+use Rattle.std.proofs.Common.{◌≡◌, ◌∙◌, ◌⊎◌, ◌++◌, ℕ, List, [], IsFalse, IsTrue, Option, None, ap, append-nil, map, subst, sym}
 use Rattle.mrt.specs.declared.sink.Sink as sinks
 use Rattle.bgp_text.specs.Lines.{Writes}
 use Rattle.bgp_text.specs.declared.lines.Lines.{Lines}
@@ -15,6 +15,9 @@ use Rattle.bgp_html.proofs.Reported.{put_lines, reported}
 use Rattle.bgp_check_tool.specs.Marks.{AddsMarks}
 use Rattle.bgp_check_tool.specs.declared.marks.BothMarks.{BothMarks}
 use Rattle.bgp_check_tool.specs.declared.marks.Marks.{Marks}
+use Rattle.bgp_check_capture_tool.specs.Marks.{AddsMarks as AddsStretches, MarkValue, mark_value}
+use Rattle.bgp_check_capture_tool.specs.declared.marks.StretchMark.{StretchMark}
+use Rattle.bgp_check_capture_tool.specs.declared.marks.StretchMarks.{StretchMarks}
 use Rattle.bgp_report.specs.Report.{PutsReport, Reports}
 
 -- the head, then what is taken and its end, and then what stands behind it
@@ -65,9 +68,25 @@ module _ {W : Type 0} {sink : sinks.Ghosts W} (law : Joins sink) (name : List �
     written = is_written a f old new fresh first last (report_html name it.text it.behind) code status (and_nothing law it.written handed) nothing told;
   }
 
+-- the same under another word for what is printed
+pub put_as : {W : Type 0} {sink : sinks.Ghosts W} (name : List ℕ) (One Other : List ℕ → ℕ → List Piece → Type 0) (code : ℕ) (old new : Lines W sink)
+    → ((text : List ℕ) (code : ℕ) (behind : List Piece) → One text code behind → Other text code behind) → PutsReport name One code old new → PutsReport name Other code old new
+put_as name One Other code old new reads it = record {
+  text = it.text;
+  behind = it.behind;
+  prints = reads it.text code it.behind it.prints;
+  no_lines = it.no_lines;
+  written = it.written;
+}
+
 -- the marks of all connections, if none is missing
 pub all_marks : {Y : Type 0} (old new : Marks Y) (all : List BothMarks) → AddsMarks old new all → old.both.items ≡ [] → IsFalse new.are_missing → new.both.items ≡ all
 all_marks old new all adds none some = (adds some).1 ∙ ap (λ (ms : List BothMarks). ms ++ all) none
+
+-- and those of all stretches
+pub all_stretches : {Y : Type 0} (old new : StretchMarks Y) (all : List MarkValue) → AddsStretches old new all → old.stretches.items ≡ [] → IsFalse new.are_missing
+    → map mark_value new.stretches.items ≡ all
+all_stretches old new all adds none some = (adds some).1 ∙ ap (λ (ms : List (StretchMark _)). map mark_value ms ++ all) none
 
 -- the last of several pieces
 pub ended : {W : Type 0} {sink : sinks.Ghosts W} {old new : Lines W sink} {text : List ℕ} → Writes old new text → Writes old new (text ++ [])

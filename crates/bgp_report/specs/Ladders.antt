@@ -33,6 +33,8 @@ use Rattle.bgp_html.specs.declared.tag.Column.TheVariants.{Left, Right}
 use Rattle.bgp_html.specs.declared.tag.Tag.{Tag}
 use Rattle.bgp_html.specs.declared.tag.Tag.TheVariants as tags
 use Rattle.bgp_ladder.specs.Ladder.{AreRows, AreRowsBefore, head_pieces}
+use Rattle.bgp_ladder.specs.declared.numbering.Numbering.{Numbering}
+use Rattle.bgp_ladder.specs.declared.numbering.Numbering.TheVariants.{Packets}
 use Rattle.bgp_ladder.specs.declared.rows.Ladder.{Ladder}
 use Rattle.bgp_check_tool.specs.Made.{IsMade}
 use Rattle.bgp_check_tool.specs.Seen.{seen_from}
@@ -115,13 +117,15 @@ column_of Local Peer = Right
 column_of Peer Local = Right
 column_of Peer Peer = Left
 
-abbrev pub ladder_of : Connection → Framings → Opening → Side → NoAt → List Entry → Ladder
-ladder_of connection framings opening side place entries = record {
+abbrev pub ladder_of : Connection → Framings → Opening → Side → EndMark → List Entry → Ladder
+ladder_of connection framings opening side mark entries = record {
   column = column_of opening.opened_by side;
   first = connection.second;
   micro = connection.micro;
   framings = framings;
-  impossible = place_in place entries;
+  numbering = Packets;
+  impossible = place_in mark.no entries;
+  asked = mark.asked;
 }
 
 -- it is open, or is opened when somebody asks for it
@@ -129,14 +133,14 @@ abbrev pub details_of : Bool → Tag
 details_of true = tags.DetailsOpen
 details_of false = tags.Details
 
-abbrev pub start_by : Bool → Column → Order → List ℕ → List ℕ → List ℕ → List Piece
-start_by is_open column order summary left right =
+abbrev pub start_by : Bool → Column → Numbering → List ℕ → List ℕ → List ℕ → List ℕ → List Piece
+start_by is_open column numbering order summary left right =
     Markup (details_of is_open) ∷ Words summary ∷ Markup tags.SummaryEnd
-    ∷ head_pieces column (order_words order) left right
+    ∷ head_pieces column numbering order left right
 
 abbrev pub start_pieces : Session → Opening → Side → Bool → Order → List Piece
 start_pieces session opening side is_open order =
-    start_by is_open (column_of opening.opened_by side) order
+    start_by is_open (column_of opening.opened_by side) Packets (order_words order)
     (summary_words session opening side)
     (side_words session opening opening.opened_by)
     (side_words session opening (other_side opening.opened_by))
@@ -174,7 +178,7 @@ pub record IsLadder (within : ℕ) (connection : Connection) (session : Session)
   pub made : IsMade within (seen_from side connection) framings entries received sent
   pub is_whole : Bool
   pub rows : List Piece
-  pub are_rows : AreItsRows (ladder_of connection framings opening side mark.no entries) possible
+  pub are_rows : AreItsRows (ladder_of connection framings opening side mark entries) possible
       entries is_whole rows
   pub is : pieces
       ≡ start_pieces session opening side is_open mark.order ++ (rows ++ end_pieces is_whole)

@@ -5,4 +5,6 @@ pub mod Captures
 pub mod Notes
 pub mod Ladders
 pub mod Drawn
+pub mod Stretches
+pub mod DrawnStretch
 pub mod Report

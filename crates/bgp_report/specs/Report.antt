@@ -9,13 +9,18 @@ use Rattle.bgp_html.specs.Report.{report_html}
 use Rattle.bgp_import.specs.declared.cut_short.CutShort.{CutShort}
 use Rattle.bgp_import.specs.declared.refusal.Refusal.{Refusal}
 use Rattle.bgp_verdict_lines.specs.declared.form.VerdictForm.TheVariants.{Text}
+use Rattle.mrt.specs.declared.fault.CaptureFault.{CaptureFault}
+use Rattle.mrt_sessions.specs.declared.holding.Ending.{Ending}
+use Rattle.bgp_check_capture_tool.specs.Checking.{ChecksCapture, ChecksHeld, told_marks}
 use Rattle.bgp_check_capture_tool.specs.DeclaredSettings.TheVariants.{Always}
+use Rattle.bgp_check_capture_tool.specs.declared.nothing.NothingJudged.{NothingJudged as NoneJudged}
 use Rattle.bgp_check_tool.specs.Checking.{ChecksRecording}
 use Rattle.bgp_check_tool.specs.Marks.{marks_of}
 use Rattle.bgp_check_tool.specs.declared.nothing.NothingJudged.{NothingJudged}
 use Rattle.bgp_check_tool.specs.declared.options.CheckOptions.{CheckOptions}
 use Rattle.bgp_check_capture_tool.specs.declared.options.CaptureOptions.{CaptureOptions}
 use Rattle.bgp_report.specs.Ladders.{AreBehind}
+use Rattle.bgp_report.specs.Stretches.{AreStretchesBehind}
 
 -- how a file is checked: as text, with routes and with the options of `bgp judge`
 abbrev pub recording_options : CheckOptions → CheckOptions
@@ -67,11 +72,7 @@ pub record PutsReport {W : Type 0} {sink : sinks.Ghosts W} (name : List ℕ)
   pub no_lines : printed_of behind ≡ []
   pub written : Writes old new (report_html name text behind)
 
--- nothing stands after the text
-abbrev pub Alone : (List ℕ → ℕ → Type 0) → List ℕ → ℕ → List Piece → Type 0
-Alone Prints text code behind = Prints text code × (behind ≡ [])
-
--- whatever stands there
+-- whatever stands after the text
 abbrev pub Beside : (List ℕ → ℕ → Type 0) → List ℕ → ℕ → List Piece → Type 0
 Beside Prints text code behind = Prints text code
 
@@ -86,3 +87,23 @@ pub record ChecksWithLadders {S : Type 0} (gives : S → S → List ℕ → Type
         source' [] text code cut_short firsts refusal nothing
     pub ladders : AreBehind options.port options.within checks.packets
         text (marks_of options.printing checks.blocks) behind
+
+-- What is printed of a capture, to a text in memory; after it the ladders of the stretches that are
+-- judged.
+pub record ChecksWithStretches {S : Type 0} (gives : S → S → List ℕ → Type 0)
+    (has_ended : S → Bool) (source_failures : S → ℕ) (options : CaptureOptions) (source source' : S)
+    (firsts : List (Option CaptureFault)) (count : ℕ) (fault : Option CaptureFault)
+    (nothing : Option NoneJudged) (text : List ℕ) (code : ℕ) (behind : List Piece) : Type 0
+  where
+    pub checks : ChecksCapture gives has_ended TakesText source_failures never_fails options source
+        source' [] text code firsts count fault nothing
+    pub ladders : AreStretchesBehind text (told_marks options checks.checks.tells) behind
+
+-- the same of a capture that is held
+pub record ChecksHeldWithStretches (options : CaptureOptions) (octets : List ℕ) (ending : Ending)
+    (firsts : List (Option CaptureFault)) (count : ℕ) (fault : Option CaptureFault)
+    (nothing : Option NoneJudged) (text : List ℕ) (code : ℕ) (behind : List Piece) : Type 0
+  where
+    pub checks : ChecksHeld TakesText never_fails options octets ending [] text code firsts count
+        fault nothing
+    pub ladders : AreStretchesBehind text (told_marks options checks.tells) behind

@@ -15,11 +15,11 @@ ghost use Rattle.bgp_report.specs.Drawn.{IsDrawn};
 ghost use Rattle.bgp_report.specs.Ladders.{IsHeard, PutsLadder, column_of, details_of, end_pieces};
 ghost use Rattle.bgp_report.specs.Ladders.{is_out, place_in, sent_at, start_by};
 
-use crate::names::{Names, names_of, order_words};
-use bgp_check_tool::{BothMarks, Made, NoAt, Order, made_of, seen_from};
+use crate::names::{Names, names_of};
+use bgp_check_tool::{BothMarks, EndMark, Made, NoAt, made_of, seen_from};
 use bgp_html::{Column, Tag, put_escaped, put_tag};
 use bgp_import::{Talk, Talks};
-use bgp_ladder::{Ladder, put_head, put_rows};
+use bgp_ladder::{Ladder, Numbering, put_head, put_rows};
 use bgp_recording::Entry;
 use bgp_text::Lines;
 use mrt::{Record, Sink};
@@ -92,6 +92,16 @@ fn place_in(place: NoAt, entries: &[Entry<'_>]) -> Option<usize>
     }
 }
 
+/// Returns the same place among records in memory.
+pub(crate) fn place_of(count: Option<u64>) -> Option<usize>
+    ensures { result ≡ count }
+{
+    match count {
+        None => None,
+        Some(count) => Some(count as usize),
+    }
+}
+
 /// Returns the connection of these with this number, if it can be read.
 fn chosen<A: Allocator + Copy>(talk: &Talk<A>, number: usize) -> Option<Connection<'_>>
     ensures fine { IfSome result (λ c. talk.entry.now.refusal ≡ None) }
@@ -111,9 +121,9 @@ fn chosen<A: Allocator + Copy>(talk: &Talk<A>, number: usize) -> Option<Connecti
 /// What a ladder is put of.
 #[derive(Drop)]
 pub(crate) struct Drawn<'a, A: Allocator> {
-    names: Names<A>,
-    made: Made<'a, A>,
-    ladder: Ladder,
+    pub(crate) names: Names<A>,
+    pub(crate) made: Made<'a, A>,
+    pub(crate) ladder: Ladder,
 }
 
 /// Returns the connection of these, if it can be read.
@@ -144,12 +154,12 @@ pub(crate) fn drawn_of<'a, A: Allocator + Copy>(
     connection: &Connection<'a>,
     both: &BothMarks,
     side: Side,
-    place: NoAt,
+    mark: EndMark,
 ) -> Result<Drawn<'a, A>, AllocError>
     requires received { IsCovered connection.now.received }
     requires sent { IsCovered connection.now.sent }
     ensures { IfOk result (λ drawn. IsClocked connection.now
-        → IsDrawn within connection.now both.now.session both.now.opening side place drawn) }
+        → IsDrawn within connection.now both.now.session both.now.opening side mark drawn) }
 {
     let names = names_of(alloc, &both.session, both.opening, side)?;
     let made = made_of(alloc, &seen_from(connection, side), within)?;
@@ -158,7 +168,9 @@ pub(crate) fn drawn_of<'a, A: Allocator + Copy>(
         first: connection.second,
         micro: connection.micro,
         framings: made.framings,
-        impossible: place_in(place, &made.recording.entries),
+        numbering: Numbering::Packets,
+        impossible: place_in(mark.no, &made.recording.entries),
+        asked: place_of(mark.asked),
     };
     Ok(Drawn {
         names,
@@ -170,18 +182,20 @@ pub(crate) fn drawn_of<'a, A: Allocator + Copy>(
 /// Puts what stands before the rows.
 fn put_start<A: Allocator, W: Sink>(
     lines: &mut Lines<'_, W>,
-    drawn: &Drawn<'_, A>,
+    names: &Names<A>,
+    ladder: &Ladder,
     is_open: bool,
-    order: Order,
+    order: &[u8],
 )
-    ensures { Writes lines.old lines.new (html_of (start_by is_open drawn.now.ladder.column order
-        drawn.now.names.summary.items drawn.now.names.left.items drawn.now.names.right.items)) }
+    ensures { Writes lines.old lines.new (html_of (start_by is_open ladder.now.column
+        ladder.now.numbering order.now names.now.summary.items names.now.left.items
+        names.now.right.items)) }
 {
     put_tag(lines, details_of(is_open));
-    put_escaped(lines, &drawn.names.summary);
+    put_escaped(lines, &names.summary);
     put_tag(lines, Tag::SummaryEnd);
-    let (left, right) = (&drawn.names.left, &drawn.names.right);
-    put_head(lines, drawn.ladder.column, order_words(order), left, right);
+    let (left, right) = (&names.left, &names.right);
+    put_head(lines, ladder.column, ladder.numbering, order, left, right);
 }
 
 /// Puts what stands behind all rows.
@@ -201,27 +215,25 @@ fn put_cut_end<W: Sink>(lines: &mut Lines<'_, W>)
     put_tag(lines, Tag::DetailsEnd);
 }
 
-/// Puts a ladder. The lines of a text say what could have come.
+/// Puts a ladder of these entries, with what is said of their order. The lines of a text say what
+/// could have come.
 pub(crate) fn put_drawn<A: Allocator + Copy, W: Sink>(
     alloc: A,
     lines: &mut Lines<'_, W>,
-    drawn: &Drawn<'_, A>,
+    names: &Names<A>,
+    ladder: &Ladder,
+    entries: &[Entry<'_>],
     is_open: bool,
-    order: Order,
+    order: &[u8],
     possible: &[u8],
 )
-    ensures { PutsLadder drawn.now.ladder possible.now drawn.now.made.recording.entries.items
-        (start_by is_open drawn.now.ladder.column order drawn.now.names.summary.items
-        drawn.now.names.left.items drawn.now.names.right.items) lines.old lines.new }
+    ensures { PutsLadder ladder.now possible.now entries.now
+        (start_by is_open ladder.now.column ladder.now.numbering order.now
+        names.now.summary.items names.now.left.items names.now.right.items)
+        lines.old lines.new }
 {
-    put_start(lines, drawn, is_open, order);
-    match put_rows(
-        alloc,
-        lines,
-        &drawn.ladder,
-        possible,
-        &drawn.made.recording.entries,
-    ) {
+    put_start(lines, names, ladder, is_open, order);
+    match put_rows(alloc, lines, ladder, possible, entries) {
         Ok(()) => put_whole_end(lines),
         Err(AllocError) => put_cut_end(lines),
     }

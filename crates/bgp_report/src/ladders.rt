@@ -17,6 +17,7 @@ ghost use Rattle.bgp_report.specs.Ladders.{missing_pieces, opener_is_open, other
 ghost use Rattle.bgp_report.specs.Ladders.{some_judged};
 
 use crate::ladder::{connection_of, drawn_of, put_drawn};
+use crate::names::order_words;
 use bgp_check_tool::{BothMarks, CheckOptions, EndMark, Marks, NoAt};
 use bgp_html::{Notes, Tag, put_escaped, put_tag};
 use bgp_import::{Talks, other_side};
@@ -133,7 +134,7 @@ fn behind_end(count: usize, mark: Option<EndMark>) -> usize
 
 /// Returns the lines that say what could have come, or had to, where the answer behind so many
 /// stands.
-fn possible_at<'a, A: Allocator + Copy>(notes: &'a Notes<A>, count: usize) -> &'a [u8]
+pub(crate) fn possible_at<'a, A: Allocator + Copy>(notes: &'a Notes<A>, count: usize) -> &'a [u8]
     requires { count < u64.MAX }
     ensures { (text : List ℕ) → AreNotes text notes.now → IsPossible text count result.now }
 {
@@ -161,8 +162,17 @@ fn put_connected<A: Allocator + Copy, W: Sink>(
         × IsLadderOrLacking within connection.now both.now side is_open mark possible.now pieces
         × Writes lines.old lines.new (html_of pieces) }
 {
-    match drawn_of(alloc, within, connection, both, side, mark.no) {
-        Ok(drawn) => put_drawn(alloc, lines, &drawn, is_open, mark.order, possible),
+    match drawn_of(alloc, within, connection, both, side, mark) {
+        Ok(drawn) => put_drawn(
+            alloc,
+            lines,
+            &drawn.names,
+            &drawn.ladder,
+            &drawn.made.recording.entries,
+            is_open,
+            order_words(mark.order),
+            possible,
+        ),
         Err(AllocError) => put_lacking(lines),
     }
 }

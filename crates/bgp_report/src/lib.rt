@@ -4,8 +4,8 @@
 //! the file, and then each line that `bgp check --routes --settings` prints, in an element of its
 //! own. What is printed, and with which status, is what [`check_recording`] and [`check_capture`]
 //! promise of a text in memory; bgp_html's laws say that a report has just these lines, and no
-//! markup but its own. After the text of a recording stand the records of each end that is judged,
-//! as bgp_ladder puts them.
+//! markup but its own. After the text stand the records of each end of a recording that is judged,
+//! or of each such stretch of a session in a capture, as bgp_ladder puts them.
 //!
 //! ```text
 //! let checked = report_recording::<_, CompactTracker<_>, _, _>(
@@ -23,6 +23,8 @@ mod ladder;
 mod ladders;
 mod names;
 mod recording;
+mod stretch;
+mod stretches;
 
 // What `check` prints as text and in JSON is passed on, so that who prints a file in any form needs
 // this crate alone.

@@ -71,7 +71,7 @@ fn put_summary<W: Sink>(lines: &mut Lines<'_, W>, session: &Session, opening: Op
 }
 
 /// Returns what a sink in memory took, if it had memory for all of it.
-fn taken<A: Allocator>(
+pub(crate) fn taken<A: Allocator>(
     sink: MemSink<A>,
     handed: Result<(), Failed>,
 ) -> Result<Vec<u8, A>, AllocError>

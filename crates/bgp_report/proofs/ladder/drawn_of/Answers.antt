@@ -17,5 +17,5 @@ returns g c = λ clock.
       left = c.in_ok-names.ensures.left;
       right = c.in_ok-names.ensures.right;
       made = subst (λ (v : Connection). IsMade c.args.within v made.framings made.recording.entries.items made.recording.received made.recording.sent) c.seen_from.ensures (c.in_ok-made.ensures.told its_clock);
-      is_ladder = rw c.column_of.ensures (rw c.place_in.ensures (rw c.deref.ensures.value refl));
+      is_ladder = rw c.column_of.ensures (rw c.place_in.ensures (rw c.deref.ensures.value (rw c.place_of.ensures refl)));
     }

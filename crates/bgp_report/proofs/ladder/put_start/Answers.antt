@@ -5,4 +5,4 @@ pub returns : goal.returns
 returns g c =
     let law : Joins g.W.Sink = record { joined = g.met.W.Sink.joined } in
     and_then law (rw c.details_of.ensures at c.put_tag.ensures) (and_then law (rw c.deref.ensures.value at c.put_escaped.ensures) (and_then law c.put_tag-2.ensures
-    (rw c.order_words.ensures at (rw c.deref-2.ensures.value at (rw c.deref-3.ensures.value at c.put_head.ensures)))))
+    (rw c.deref-2.ensures.value at (rw c.deref-3.ensures.value at c.put_head.ensures))))

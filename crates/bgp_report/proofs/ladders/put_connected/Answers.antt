@@ -10,7 +10,7 @@ returns-in-Ok g c = λ clock.
     let drawn = c.in-Ok.drawn in
     let both = c.args.both.now in
     let is = c.in-Ok.ensures clock in
-    let (is_whole, rows, are, put) = c.put_drawn.ensures in (
+    let (is_whole, rows, are, put) = rw c.deref.ensures.value at c.put_drawn.ensures in (
       _,
       inl (record {
         entries = drawn.made.recording.entries.items;
@@ -22,8 +22,9 @@ returns-in-Ok g c = λ clock.
         rows = rows;
         are_rows = subst (λ (l : Ladder). AreItsRows l c.args.possible.now drawn.made.recording.entries.items is_whole rows) is.is_ladder are;
         is = ap (λ (ps : List Piece). ps ++ (rows ++ end_pieces is_whole))
-            (start_is c.args.is_open c.args.mark.order both.session both.opening c.args.side drawn.ladder.column drawn.names.summary.items drawn.names.left.items drawn.names.right.items
-            (ap (λ (l : Ladder). l.column) is.is_ladder) is.summary is.left is.right);
+            (start_is c.args.is_open c.args.mark.order both.session both.opening c.args.side drawn.ladder.column drawn.ladder.numbering c.order_words.result.now
+            drawn.names.summary.items drawn.names.left.items drawn.names.right.items (ap (λ (l : Ladder). l.column) is.is_ladder)
+            (ap (λ (l : Ladder). l.numbering) is.is_ladder) c.order_words.ensures is.summary is.left is.right);
       }),
       put,
     )
