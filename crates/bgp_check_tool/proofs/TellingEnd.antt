@@ -33,7 +33,7 @@ use Rattle.bgp_check_tool.specs.declared.another.Order.{Order}
 use Rattle.bgp_check_tool.specs.declared.another.Order.TheVariants as orders
 use Rattle.bgp_check_tool.specs.Told.{EndTold, HasCause, IsOfAll, IsOfAnother, IsOfMade, IsTold, peer_end, place_of}
 use Rattle.bgp_check_lines.specs.AsNumber.{HasAsNumber}
-use Rattle.bgp_check_tool.specs.Elsewhere.{IsOther, in_made}
+use Rattle.bgp_check_tool.specs.Elsewhere.{IsOther, in_made, no_count}
 use Rattle.bgp_wire.specs.declared.header.Limit.{Limit}
 use Rattle.bgp_why.specs.declared.endpoint.Endpoint.{Endpoint as PeerEnd}
 use Rattle.bgp_why.specs.declared.place.Place.{Place}
@@ -152,6 +152,13 @@ module _ (session : Session) (within : ℕ) (framings : Framings) (connection : 
   yes_not_late (JudgedAs number peer under (No count)) late it none = absurd it
   yes_not_late (JudgedAs number peer under Unfinished) late it none = absurd it
 
+-- the reason of a yes is about no no
+pub yes_not_asked : (answer : AnswerValue) (asked_at : Option ℕ) → IsYes answer → asked_at ≡ None → asked_at ≡ no_count answer
+yes_not_asked (Unjudged why) asked_at it none = absurd it
+yes_not_asked (JudgedAs number peer under (Yes ends)) asked_at it none = none
+yes_not_asked (JudgedAs number peer under (No count)) asked_at it none = absurd it
+yes_not_asked (JudgedAs number peer under Unfinished) asked_at it none = absurd it
+
 -- what is said of another message is of what is told, and so is a reason
 module _ (session : Session) (sent : Limit) (peer : PeerEnd) (records : List ShownRecord) where
   pub other_so : (found found' : Option NoOrder) (its its' : Option Place) (text text' : Option (List ℕ)) → found ≡ found' → its ≡ its' → text ≡ text'
@@ -221,11 +228,11 @@ pub told_so : (options : CheckOptions) (asked : Asked) (end : Endpoint) (session
     → told.put_off ≡ put_off 0 entries → told.within ≡ options.within
     → IsLate session connection its told.late → IsReached (records_of entries) its told.reached
     → (instead : OtherOrders) → AreInstead options.within framings connection entries about told.found instead
-    → IsReasonTo session framings.sent.limit (second_at entries 0) true (peer_end session connection) (shown_places entries) instead (records_of entries) about told.deed told.reason
+    → IsReasonTo session framings.sent.limit (second_at entries 0) true (peer_end session connection) (shown_places entries) instead (records_of entries) about told.deed told.reason → told.asked_at ≡ no_count about
     → told.received ≡ received → told.sent ≡ sent
     → IsTold options asked end session connection told
 told_so options asked end session connection framings entries received sent told answer about its same answers is_about are_of is_end is_number is_found is_known has_cause is_place is_other is_first is_put_off is_within is_late is_reached instead are_instead explains
-    is_received is_sent =
+    is_asked is_received is_sent =
     record {
       entries = entries;
       received_unshown = received;
@@ -251,6 +258,7 @@ told_so options asked end session connection framings entries received sent told
       instead = instead;
       are_instead = are_instead;
       explains = explains;
+      is_asked = is_asked;
       is_received = is_received;
       is_sent = is_sent;
     }

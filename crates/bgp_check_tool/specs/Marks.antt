@@ -24,16 +24,21 @@ no_at (No count) (Some found) = noes.Message found.unexplained.before
 no_at Unfinished found = noes.Nowhere
 
 -- of an end that is judged
-abbrev pub mark_by : AnswerValue → Order → Bool → Option NoOrder → Option EndMark
-mark_by (Unjudged why) order lacks_memory found = None
-mark_by (JudgedAs number peer under verdict) order lacks_memory found =
-    Some (record { order = order; no = no_at verdict found; lacks_memory = lacks_memory })
+abbrev pub mark_by : AnswerValue → Order → Bool → Option NoOrder → Option ℕ → Option EndMark
+mark_by (Unjudged why) order lacks_memory found asked = None
+mark_by (JudgedAs number peer under verdict) order lacks_memory found asked =
+    Some (record {
+      order = order;
+      no = no_at verdict found;
+      asked = asked;
+      lacks_memory = lacks_memory;
+    })
 
 -- and isn't left out
 abbrev pub end_mark : Printing → EndTold → Option EndMark
 end_mark printing told =
     if is_left_out printing.quiet told.answer then None
-    else mark_by told.answer told.order told.lacks_memory told.found
+    else mark_by told.answer told.order told.lacks_memory told.found told.asked_at
 
 -- of both ends of a connection
 abbrev pub block_marks : Printing → Block → List BothMarks

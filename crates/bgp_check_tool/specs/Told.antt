@@ -32,7 +32,7 @@ use Rattle.bgp_check_tool.specs.Instead.{AreInstead}
 use Rattle.bgp_check_tool.specs.Late.{IsLate}
 use Rattle.bgp_check_tool.specs.declared.late.Late.{Late}
 use Rattle.bgp_check_tool.specs.declared.orders.NoOrder.{NoOrder}
-use Rattle.bgp_check_tool.specs.Elsewhere.{IsOther, in_made, no_place, octets_if}
+use Rattle.bgp_check_tool.specs.Elsewhere.{IsOther, in_made, no_count, no_place, octets_if}
 use Rattle.bgp_check_tool.specs.Place.{last_place, place_at, second_at, sent_place}
 use Rattle.bgp_why.specs.declared.endpoint.Endpoint.{Endpoint as PeerEnd}
 use Rattle.bgp_why.specs.declared.other_orders.OtherOrders.{OtherOrders}
@@ -77,6 +77,8 @@ pub record EndTold : Type 0 where
   -- unfinished, where it is
   pub deed : List ℕ
   pub reason : List ℕ
+  -- after how many records of the made order the no stands that they are about, if it is one
+  pub asked_at : Option ℕ
   -- what of the octets that it received is in no record, and of those that it sent
   pub received : Unshown
   pub sent : Unshown
@@ -102,6 +104,7 @@ told_value told = record {
   reached = reached_value told.reached;
   deed = deed_text told.reason;
   reason = lines_text told.reason;
+  asked_at = told.asked_at;
   received = told.received;
   sent = told.sent;
   judge = told.judge;
@@ -231,6 +234,9 @@ pub record IsTold (options : CheckOptions) (asked : Asked) (end : Endpoint) (ses
   pub explains : IsReasonTo session framings.sent.limit (second_at entries 0) true
       (peer_end session connection) (shown_places entries) instead (records_of entries) about
       told.deed told.reason
+  -- The reason is about the no of the made order that it explains, if that is one: of another order
+  -- it is about a yes.
+  pub is_asked : told.asked_at ≡ no_count about
   pub is_received : told.received ≡ received_unshown
   pub is_sent : told.sent ≡ sent_unshown
 

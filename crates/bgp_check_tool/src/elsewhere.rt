@@ -34,7 +34,7 @@ pub(crate) fn count_in<A: Allocator>(verdict: &Verdict<A>) -> Option<u64>
 }
 
 /// Returns the same, where an end may not be judged.
-fn no_count<A: Allocator>(answer: &Answer<A>) -> Option<u64>
+pub(crate) fn no_count<A: Allocator>(answer: &Answer<A>) -> Option<u64>
     ensures { result ≡ no_count (answer_value answer.now) }
 {
     match answer {

@@ -24,7 +24,7 @@ ghost use Rattle.bgp_check_tool.specs.declared.another.Order.TheVariants.{Anothe
 ghost use Rattle.bgp_check_tool.specs.declared.another.Order.TheVariants.{Made as OfMade};
 ghost use Rattle.bgp_check_tool.specs.About.{IsNoOf, judged_value};
 ghost use Rattle.bgp_check_tool.specs.Another.{IsNo, IsNoYes, IsYes, number_in};
-ghost use Rattle.bgp_check_tool.specs.Elsewhere.{IsOther, in_made, octets_if};
+ghost use Rattle.bgp_check_tool.specs.Elsewhere.{IsOther, in_made, no_count, octets_if};
 ghost use Rattle.bgp_check_tool.specs.Judging.{AreOptionsTo};
 ghost use Rattle.bgp_check_tool.specs.Late.{IsLate};
 ghost use Rattle.bgp_check_tool.specs.Made.{IsMade};
@@ -35,7 +35,7 @@ ghost use Rattle.bgp_watch.specs.Front.{front_value};
 
 use crate::about::no_under;
 use crate::another::{AnotherOrder, Order, Searched, search_orders};
-use crate::elsewhere::{in_made, no_place, other_deed};
+use crate::elsewhere::{count_in, in_made, no_count, no_place, other_deed};
 use crate::instead::instead_of;
 use crate::judging::{options_for, options_to};
 use crate::late::{Late, late_of};
@@ -108,6 +108,8 @@ pub(crate) struct Told<'a, A: Allocator> {
     pub(crate) reached: Reached<A>,
     /// Why the verdict is a no or unfinished, where it is.
     pub(crate) reason: Reason<A>,
+    /// After how many records of the made order the no stands that this is about, if it is one.
+    pub(crate) asked_at: Option<u64>,
     /// What of the octets that it received is in no record, and of those that it sent.
     pub(crate) received: Unshown,
     pub(crate) sent: Unshown,
@@ -144,6 +146,7 @@ struct Beside<'a, A: Allocator> {
     in_made: Option<Place>,
     other: Option<Vec<u8, A>>,
     late: Option<Late>,
+    asked_at: Option<u64>,
     judge: Option<JudgeOptions>,
 }
 
@@ -157,6 +160,7 @@ impl<'a, A: Allocator + Copy> Beside<'a, A> {
         ensures in_made { result.in_made ≡ None }
         ensures other { octets_if result.other ≡ None }
         ensures late { result.late ≡ None }
+        ensures asked_at { result.asked_at ≡ None }
         ensures judge { result.judge ≡ None }
     {
         Beside {
@@ -167,13 +171,14 @@ impl<'a, A: Allocator + Copy> Beside<'a, A> {
             in_made: None,
             other: None,
             late: None,
+            asked_at: None,
             judge: None,
         }
     }
 
-    /// Beside what is unfinished over all orders, with where the no of the made one stands, and
-    /// what the answer becomes.
-    fn of_all(in_made: Option<Place>, late: Option<Late>) -> Beside<'a, A>
+    /// Beside what is unfinished over all orders, with where the no of the made one stands, after
+    /// how many records that is, and what the answer becomes.
+    fn of_all(in_made: Option<Place>, asked_at: Option<u64>, late: Option<Late>) -> Beside<'a, A>
         ensures order { result.order ≡ OfAll }
         ensures over_all { result.over_all ≡ true }
         ensures lacks_memory { result.lacks_memory ≡ false }
@@ -181,6 +186,7 @@ impl<'a, A: Allocator + Copy> Beside<'a, A> {
         ensures in_made { result.in_made ≡ in_made }
         ensures other { octets_if result.other ≡ None }
         ensures late { result.late ≡ late }
+        ensures asked_at { result.asked_at ≡ asked_at }
         ensures judge { result.judge ≡ None }
     {
         Beside {
@@ -191,6 +197,7 @@ impl<'a, A: Allocator + Copy> Beside<'a, A> {
             in_made,
             other: None,
             late,
+            asked_at,
             judge: None,
         }
     }
@@ -218,6 +225,8 @@ impl<'a, A: Allocator + Copy> Beside<'a, A> {
         ensures other { IfOk result (λ beside. octets_if beside.other ≡ None) }
         ensures late { IfOk result (λ beside. IsClocked viewed.now.connection → IsLate
             viewed.now.session viewed.now.connection (answer_value answer.now) beside.late) }
+        ensures asked_at { IfOk result (λ beside.
+            beside.asked_at ≡ no_count (answer_value answer.now)) }
         ensures judge { IfOk result (λ beside. IsClocked viewed.now.connection
             → IsRecordedInOrder made.now.framings viewed.now.options.within
             viewed.now.connection made.now.recording.entries.items made.now.recording.received
@@ -234,6 +243,7 @@ impl<'a, A: Allocator + Copy> Beside<'a, A> {
             in_made: None,
             other: None,
             late: late_of::<A, T>(alloc, viewed, answer, known)?,
+            asked_at: no_count(answer),
             judge: options_to(alloc, viewed, made, answer)?,
         })
     }
@@ -264,6 +274,8 @@ impl<'a, A: Allocator + Copy> Beside<'a, A> {
             (octets_if beside.other)) }
         ensures late { IfOk result (λ beside. IsClocked viewed.now.connection → IsLate
             viewed.now.session viewed.now.connection (answer_value answer.now) beside.late) }
+        ensures asked_at { IfOk result (λ beside.
+            beside.asked_at ≡ no_count (judged_value about.now)) }
         ensures judge { IfOk result (λ beside. IsClocked viewed.now.connection
             → IsRecordedInOrder made.now.framings viewed.now.options.within
             viewed.now.connection made.now.recording.entries.items made.now.recording.received
@@ -283,6 +295,7 @@ impl<'a, A: Allocator + Copy> Beside<'a, A> {
             in_made,
             other,
             late: late_of::<A, T>(alloc, viewed, answer, TooLong::unknown())?,
+            asked_at: count_in(&about.verdict),
             judge: options_for(alloc, viewed, made, about)?,
         })
     }
@@ -388,6 +401,7 @@ fn told_of<'a, A: Allocator + Copy>(
     ensures reached { reached_value result.reached ≡ reached_value reached }
     ensures reason { (deed_text result.reason ≡ deed_text reason)
         × (lines_text result.reason ≡ lines_text reason) }
+    ensures asked_at { result.asked_at ≡ beside.entry.asked_at }
     ensures unshown { (result.received ≡ recording.now.received)
         × (result.sent ≡ recording.now.sent) }
     ensures over_all { (result.over_all ≡ beside.entry.over_all)
@@ -414,6 +428,7 @@ fn told_of<'a, A: Allocator + Copy>(
         late: beside.late,
         reached,
         reason,
+        asked_at: beside.asked_at,
         received: recording.received,
         sent: recording.sent,
         judge: beside.judge,
@@ -601,10 +616,11 @@ fn told_over_all<'a, A: Allocator + Copy, T: Tracker<A>>(
     let instead = OtherOrders::Unasked;
     let reason = reason_on::<A, T>(alloc, viewed, framings, recording, instead, answer)?;
     let in_made = no_place(recording.entries.as_slice(), answer);
+    let asked_at = no_count(answer);
     let answer = unfinished(number_in(answer), its);
     let reached = reached_on::<A, T>(alloc, recording, &answer, None)?;
     let late = late_of::<A, T>(alloc, viewed, &answer, TooLong::unknown())?;
-    let beside = Beside::of_all(in_made, late);
+    let beside = Beside::of_all(in_made, asked_at, late);
     Ok(told_of(viewed, recording, answer, reached, reason, beside))
 }
 

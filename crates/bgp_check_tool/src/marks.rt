@@ -37,6 +37,12 @@ pub struct EndMark {
     pub order: Order,
     /// Where its no stands, if it has one.
     pub no: NoAt,
+    /// How many records of the made order stand before the one that the reason's lines are about,
+    /// which say what could have come there. They are about the no of the made order, also where
+    /// the end's no stands elsewhere: of a no over all orders, about the one that the made order
+    /// has under the configuration under which that message comes last. `None` if the made order
+    /// has no no: the reason has no lines, or they are about what may follow all records.
+    pub asked: Option<u64>,
     /// Whether memory was refused for the search over all orders. If not, a no or an unfinished is
     /// about one order alone only if that search was too long.
     pub lacks_memory: bool,
@@ -83,14 +89,16 @@ fn mark_by<A: Allocator>(
     order: Order,
     lacks_memory: bool,
     found: &Option<NoOrder<'_>>,
+    asked: Option<u64>,
 ) -> Option<EndMark>
-    ensures { result ≡ mark_by (answer_value answer.now) order lacks_memory found.now }
+    ensures { result ≡ mark_by (answer_value answer.now) order lacks_memory found.now asked }
 {
     match answer {
         Answer::NotJudged(_) => None,
         Answer::Judged(judged) => Some(EndMark {
             order,
             no: no_at(&judged.verdict, found),
+            asked,
             lacks_memory,
         }),
     }
@@ -103,7 +111,13 @@ fn end_mark<A: Allocator>(printing: Printing, told: &Told<'_, A>) -> Option<EndM
     if is_left_out(printing.quiet, &told.answer) {
         None
     } else {
-        mark_by(&told.answer, told.order, told.lacks_memory, &told.found)
+        mark_by(
+            &told.answer,
+            told.order,
+            told.lacks_memory,
+            &told.found,
+            told.asked_at,
+        )
     }
 }
 

@@ -51,4 +51,4 @@ returns g c = λ clocked made known cause.
     Unasked
     (nothing_instead options.within framings viewed.connection entries answer told.found nothing)
     (reason_so viewed.session framings.sent.limit peer records (second_at entries 0) (shown_places entries) Unasked answer told.deed _ told.reason _ is.reason.0 is.reason.1 c.in_ok-reason.ensures)
-    is.unshown.0 is.unshown.1
+    (is.asked_at ∙ beside.asked_at) is.unshown.0 is.unshown.1

@@ -9,7 +9,7 @@ use Rattle.bgp_check_tool.specs.Orders.{IsKnown}
 use Rattle.bgp_check_tool.specs.Place.{second_at}
 use Rattle.bgp_check_tool.specs.Told.{peer_end, place_of, told_value}
 use Rattle.bgp_why.specs.declared.other_orders.OtherOrders.TheVariants.{Unasked}
-use Rattle.bgp_check_tool.proofs.TellingEnd.{about_so, another_order, nothing_found, nothing_instead, nothing_other, reached_so, reason_so, told_so, yes_not_late}
+use Rattle.bgp_check_tool.proofs.TellingEnd.{about_so, another_order, nothing_found, nothing_instead, nothing_other, reached_so, reason_so, told_so, yes_not_asked, yes_not_late}
 use Rattle.bgp_check_tool.proofs.ending.told_of_another.Goals as goal
 
 pub returns : goal.returns
@@ -54,4 +54,4 @@ returns g c = λ made_entries made_received made_sent made_answer made answers_m
     Unasked
     (nothing_instead options.within framings viewed.connection entries answer told.found nothing)
     (reason_so viewed.session framings.sent.limit peer records (second_at entries 0) (shown_places entries) Unasked answer told.deed _ told.reason _ is.reason.0 is.reason.1 c.in_ok-reason.ensures)
-    is.unshown.0 is.unshown.1
+    (yes_not_asked answer told.asked_at c.requires.yes (is.asked_at ∙ beside.asked_at)) is.unshown.0 is.unshown.1

@@ -72,4 +72,4 @@ returns g c = λ clocked made unexplained.
     (reason_so viewed.session framings.sent.limit peer records (second_at entries 0) (shown_places entries) c.instead_of-instead.result about told.deed _ told.reason _ is.reason.0 is.reason.1
     (c.in_ok-reason.ensures
     (about_widest records (number_in answer) its.as_number c.args.found its.peer_as its.under (verdict_value its.verdict) c.requires.about viewed.session options.within framings viewed.connection unexplained)))
-    is.unshown.0 is.unshown.1
+    (is.asked_at ∙ beside.asked_at) is.unshown.0 is.unshown.1
