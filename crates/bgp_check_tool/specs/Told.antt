@@ -182,7 +182,8 @@ IsOfOneOrder (JudgedAs number peer under (No count)) over_all = Unit {0}
 IsOfOneOrder (JudgedAs number peer under Unfinished) over_all = over_all ≡ false
 
 -- Why that isn't known: memory is refused for the search over all orders; or under one of the end's
--- widest configurations more nodes are reached than it looks at.
+-- widest configurations more nodes are reached than it looks at, and under each of these that is so,
+-- or no order is whole.
 abbrev pub IsForCause : Session → ℕ → Framings → Connection → Bool → Type 0
 IsForCause session within framings connection lacks_memory =
     (lacks_memory ≡ true) ⊎ AreTooManyOver session within framings connection

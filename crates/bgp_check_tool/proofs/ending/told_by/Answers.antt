@@ -3,7 +3,7 @@ use Rattle.std.proofs.lemmas.Result.{IfOk-weaker}
 use Rattle.bgp_prefix.specs.Shown.{ShownRecord}
 use Rattle.mrt.specs.Reader.{shown_of}
 use Rattle.bgp_check.specs.Answered.{IsAnswerTo, answer_value}
-use Rattle.bgp_check_tool.proofs.NoneLeft.{in_order, known_left, one_order, too_many}
+use Rattle.bgp_check_tool.proofs.NoneLeft.{in_order, known_left, none_known, one_order, too_many}
 use Rattle.bgp_check_tool.proofs.ending.told_by.Goals as goal
 
 pub returns-in-Nothing : goal.returns-in-Nothing
@@ -37,9 +37,10 @@ returns-in-TooLong g c =
     is clocked made tt
     (λ one.
     inr
-    (too_many viewed.session viewed.options.within framings viewed.connection c.unknown-unknown.result c.unknown-unknown.ensures.wanting c.unknown-unknown.ensures.another
+    (too_many viewed.session viewed.options.within framings viewed.connection c.in-TooLong.known
     (c.in-TooLong.ensures.found clocked
-    (in_order viewed.session viewed.options.within framings viewed.connection recording.entries.items recording.received recording.sent first made answers)))))
+    (in_order viewed.session viewed.options.within framings viewed.connection recording.entries.items recording.received recording.sent first made answers)
+    (none_known viewed.options.within framings viewed.connection viewed.session c.unknown-unknown.result c.unknown-unknown.ensures.wanting c.unknown-unknown.ensures.another)))))
     c.told_as_made-in-TooLong.ensures
 
 pub returns-in-AsMade : goal.returns-in-AsMade
