@@ -10,6 +10,9 @@ pub mod WayMessages
 pub mod WaysOf
 pub mod NoneLeft
 pub mod SaidOver
+pub mod OneConfig
+pub mod Known
+pub mod Later
 pub mod NoOrder
 pub mod TellingEnd
 pub mod NoUnder

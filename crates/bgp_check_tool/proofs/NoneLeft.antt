@@ -1,12 +1,12 @@
 -- What the search over all orders can't find, where another order is judged.
-use Rattle.std.proofs.Common.{◌≡◌, ◌≢◌, ◌⊎◌, ◌+◌, ◌<◌, ℕ, zero, suc, Bool, true, false, List, [], ◌∷◌, Option, None, Some, IsSomeAnd, append-nil, arith, inl, inr, length, refl, slice_get, subst, sym}
+use Rattle.std.proofs.Common.{◌≡◌, ◌≢◌, ◌+◌, ◌<◌, ℕ, zero, suc, Bool, true, false, List, [], ◌∷◌, Option, None, Some, IsSomeAnd, append-nil, arith, inl, inr, length, refl, slice_get, subst, sym}
 use Rattle.std.proofs.lemmas.Bool.{false≢true}
 use Rattle.bgp_prefix.specs.Shown.{ShownRecord}
 use Rattle.bgp_prefix.specs.declared.session.Session.{Session}
 use Rattle.streams.specs.declared.connection.Connection.{Connection}
 use Rattle.bgp_open.specs.OpenFault.{IsWellFormed}
 use Rattle.bgp_open.specs.declared.config.Config.{Config}
-use Rattle.bgp_machine.specs.Lists.{Each}
+use Rattle.bgp_machine.specs.Lists.{Each, Has}
 use Rattle.bgp_machine.specs.Run.{Begins, End, IsComplete, Run}
 use Rattle.bgp_machine.specs.State.{fresh_state}
 use Rattle.bgp_judge.specs.Verdict.{HasVerdict, No, Unfinished, VerdictValue, Yes}
@@ -16,8 +16,9 @@ use Rattle.bgp_recording.specs.Recorded.{IsRecorded}
 use Rattle.bgp_recording.specs.declared.entry.Entry.{Entry}
 use Rattle.bgp_recording.specs.declared.framing.Framings.{Framings}
 use Rattle.bgp_recording.specs.declared.framing.Unshown.{Unshown}
+use Rattle.bgp_recording.specs.declared.ordering.Exchange.{Exchange}
+use Rattle.bgp_orders.specs.Connections.{TellsConnection}
 use Rattle.bgp_orders.specs.Explained.{IsExplained, IsWhole, ShowARun}
-use Rattle.bgp_orders.specs.Many.{AreTooMany}
 use Rattle.bgp_orders.specs.WholeWays.{AreOfAWayOver, NoneIsFoundOver}
 use Rattle.bgp_orders.proofs.Over.{at_most_explained}
 use Rattle.bgp_parts.specs.Opens.{HasOwnOpen, HasPeersOpen, IsOpenMessage}
@@ -36,12 +37,12 @@ use Rattle.bgp_check.proofs.WidestMade.{made as widest_are_made}
 use Rattle.bgp_check_tool.specs.Another.{IsLeft, IsNoYes, IsOfAnOrder, IsYes}
 use Rattle.bgp_check_tool.specs.Elsewhere.{count_in}
 use Rattle.bgp_check_tool.specs.Made.{IsMade}
-use Rattle.bgp_check_tool.specs.Orders.{AreTooManyOver, IsAWidest, IsOfNoFamily, IsTooLongOver, IsUnexplained, IsWholeOver, UnexplainedByAll, known_of, own_of, peers_of}
+use Rattle.bgp_check_tool.specs.Orders.{AreKnown, AreNamed, AreTooManyOver, AreTooManyUnder, IsAWidest, IsNamed, IsOfNoFamily, IsTooLongOver, IsUnexplained, UnexplainedByAll, own_of, peers_of}
 use Rattle.bgp_check_tool.specs.Told.{IsOfOneOrder}
 use Rattle.bgp_check_tool.specs.declared.orders.NoOrder.{NoOrder}
 use Rattle.bgp_check_tool.specs.declared.orders.TooLong.{TooLong}
 use Rattle.bgp_check_tool.proofs.NoOrder.{each_is_of, well_formed}
-use Rattle.bgp_check_tool.proofs.SameWays.{other_whole, same_received, same_sent, values_received, values_sent}
+use Rattle.bgp_check_tool.proofs.SameWays.{other_whole}
 use Rattle.bgp_check_tool.proofs.WayMessages.{one_sent}
 use Rattle.bgp_check_tool.proofs.WaysOf.{AreOfWay, both_judged, found_way, recorded_way, sent_by_way, way_explains, way_received, way_sent, way_stretch}
 
@@ -117,11 +118,35 @@ each_under P None another under false is each = subst P is each.0
 each_under P (Some wanting) another under true is each = subst P (under_is wanting under is) each.0
 each_under P (Some wanting) another under false is each = subst P is each.1.0
 
--- what is known of neither isn't known
-not_known : (known : TooLong) → known.wanting ≡ false → known.another ≡ false → (wants : Bool) (P : Type 0) → (known_of known wants ≡ true) ⊎ P → P
-not_known known wanting another wants P (inr is) = is
-not_known known wanting another true P (inl is) = let k : ⊥ = cc in absurd k
-not_known known wanting another false P (inl is) = let k : ⊥ = cc in absurd k
+-- ---- what is named
+
+module _ (within : ℕ) (framings : Framings) (connection : Connection) where
+  abbrev Many : Config → Type 0
+  Many config = AreTooManyUnder within framings connection config
+
+  abbrev Named : Bool → Config → Type 0
+  Named named config = IsNamed within framings connection named config
+
+  some_named : (wanting : Option Config) (another : Config) (its : TooLong) → AreNamed within framings connection wanting another its → Has Many (both_of wanting another)
+  some_named None another its named = inl named.2
+  some_named (Some wanting) another its named = elim named.2 [
+    | inl is ↦ inl (subst (λ (b : Bool). Named b wanting) is named.0)
+    | inr is ↦ inr (inl (subst (λ (b : Bool). Named b another) is named.1))
+  ]
+
+  found_named : (named : Bool) (config : Config) → Named named config → NoneIsFoundOver config within framings connection
+  found_named true config many = inr many
+  found_named false config none = inl none
+
+  each_named : (wanting : Option Config) (another : Config) (its : TooLong) → AreNamed within framings connection wanting another its
+      → Each (λ config. NoneIsFoundOver config within framings connection) (both_of wanting another)
+  each_named None another its named = (inr named.2, tt)
+  each_named (Some wanting) another its named = (found_named its.wanting wanting named.0, (found_named its.another another named.1, tt))
+
+  -- nothing is known
+  pub none_known : (session : Session) (known : TooLong) → known.wanting ≡ false → known.another ≡ false → AreKnown session within framings connection known
+  none_known session known wanting another widest are true under is_under is = let k : ⊥ = cc in absurd k
+  none_known session known wanting another widest are false under is_under is = let k : ⊥ = cc in absurd k
 
 -- a place with an element is within the list
 some_within : {X : Type 0} (xs : List X) (i : ℕ) (P : X → Type 0) → IsSomeAnd (slice_get xs i) P → i < length xs
@@ -132,50 +157,50 @@ some_within (x ∷ xs) (suc i) P is = let k = some_within xs i P is in omega (ar
 
 module _ (session : Session) (within : ℕ) (framings : Framings) (connection : Connection) where
   -- it is a configuration of an OPEN that has no own fault
-  widest_is_of : (config : Config) (w : IsAWidest session within framings connection config) → IsFaultless w.own → IsOf session w.own config
+  widest_is_of : (config : Config) (w : IsAWidest session framings connection config) → IsFaultless w.are.own → IsOf session w.are.own config
   widest_is_of config w faultless =
-      let are = widest_are_made session w.own w.peers w.told w.widest faultless w.are_told w.made in
-      let each = each_is_of session w.own w.peers (configurations_of w.widest) are in
-      subst (λ (c : Config). IsOf session w.own c) (sym w.is_so) (each_under (IsOf session w.own) w.widest.wanting w.widest.another w.under w.wants w.is_under each)
+      let are = widest_are_made session w.are.own w.are.peers w.are.told w.widest faultless w.are.are_told w.are.made in
+      let each = each_is_of session w.are.own w.are.peers (configurations_of w.widest) are in
+      each_under (IsOf session w.are.own) w.widest.wanting w.widest.another config w.wants w.is_under each
 
   -- ---- the records of a whole order are a yes, if those of another are judged
 
-  module _ (config : Config) (w : IsAWidest session within framings connection config) (clocked : IsClocked connection) (entries : List Entry) (received sent : Unshown)
+  module _ (config : Config) (w : IsAWidest session framings connection config) (clocked : IsClocked connection) (entries : List Entry) (received sent : Unshown)
       (way : AreOfAWayOver framings within connection entries received sent) (e : End) (complete : IsComplete config (records_of entries) e) where
     abbrev its_records : List ShownRecord
     its_records = records_of entries
 
-    its_way : AreOfWay within w.exchange its_records
-    its_way = found_way within framings connection w.exchange w.tells clocked entries received sent way
+    its_way : AreOfWay within w.are.exchange its_records
+    its_way = found_way within framings connection w.are.exchange w.are.tells clocked entries received sent way
 
-    its_own : HasOwnOpen its_records w.own
-    its_own = way_sent within w.exchange its_records its_way IsWellFormed w.own w.has_own
+    its_own : HasOwnOpen its_records w.are.own
+    its_own = way_sent within w.are.exchange its_records its_way IsWellFormed w.are.own w.are.has_own
 
     -- it is a configuration of the OPEN in its records
     its_config : (own : Option (List ℕ)) → HasOwnOpen its_records own → IsOf session own config
     its_config own has =
-        subst (λ (o : Option (List ℕ)). IsOf session o config) (one_sent IsWellFormed its_records w.own own its_own has)
-        (widest_is_of config w (shown_faultless config its_records w.own (complete_begins config its_records e complete) its_own))
+        subst (λ (o : Option (List ℕ)). IsOf session o config) (one_sent IsWellFormed its_records w.are.own own its_own has)
+        (widest_is_of config w (shown_faultless config its_records w.are.own (complete_begins config its_records e complete) its_own))
 
     -- no verdict on them is another
     whole_is_yes : (answer : AnswerValue) → IsAnswerTo session its_records answer → (other : AnswerValue) → IsOfAnOrder session within framings connection other → IsNoYes other → IsYes answer
     whole_is_yes (Unjudged why) answers other is no_yes =
         absurd
-        (both_judged within w.exchange (records_of is.entries) its_records
-        (recorded_way within framings connection w.exchange w.tells clocked is.entries is.received_unshown is.sent_unshown is.recorded) its_way why
+        (both_judged within w.are.exchange (records_of is.entries) its_records
+        (recorded_way within framings connection w.are.exchange w.are.tells clocked is.entries is.received_unshown is.sent_unshown is.recorded) its_way why
         (judged_none session (records_of is.entries) other no_yes is.answers) answers)
     whole_is_yes (JudgedAs number peer under (Yes ends)) answers other is no_yes = tt
     whole_is_yes (JudgedAs number peer under (No count)) answers other is no_yes =
-        let stretch = way_stretch within w.exchange its_records its_way in
+        let stretch = way_stretch within w.are.exchange its_records its_way in
         absurd
         ((none_explains session its_records number peer under count answers.own config stretch answers answers.has_own (its_config answers.own answers.has_own)).1
         (complete_begins config its_records e complete))
     whole_is_yes (JudgedAs number peer under Unfinished) answers other is no_yes =
-        let stretch = way_stretch within w.exchange its_records its_way in
+        let stretch = way_stretch within w.are.exchange its_records its_way in
         let faultless = shown_faultless config its_records answers.own (complete_begins config its_records e complete) answers.has_own in
         absurd ((answers.over stretch faultless).1 config e (its_config answers.own answers.has_own) complete)
 
-  pub yes_if_whole : (config : Config) → IsAWidest session within framings connection config → IsClocked connection → (entries : List Entry) (received sent : Unshown)
+  pub yes_if_whole : (config : Config) → IsAWidest session framings connection config → IsClocked connection → (entries : List Entry) (received sent : Unshown)
       → AreOfAWayOver framings within connection entries received sent → ShowARun config (records_of entries) → (answer : AnswerValue) → IsAnswerTo session (records_of entries) answer
       → (other : AnswerValue) → IsOfAnOrder session within framings connection other → IsNoYes other → IsYes answer
   yes_if_whole config w clocked entries received sent way (e, complete) answer answers other is no_yes =
@@ -183,70 +208,19 @@ module _ (session : Session) (within : ℕ) (framings : Framings) (connection : 
 
   -- ---- if some order is whole, and none is found, there are too many nodes
 
-  pub whole_is_widest : (config : Config) → IsWholeOver session within framings connection config → IsAWidest session within framings connection config
-  whole_is_widest config w = record {
-    exchange = w.exchange;
-    tells = w.tells;
-    own = w.own;
-    peers = w.peers;
-    told = w.told;
-    widest = w.widest;
-    has_own = w.has_own;
-    has_peers = w.has_peers;
-    are_told = w.are_told;
-    made = w.made;
-    wants = w.wants;
-    under = w.under;
-    is_under = w.is_under;
-    is_so = w.is_so.0;
-  }
+  pub whole_many : (config : Config) (exchange : Exchange) → TellsConnection framings connection exchange → IsClocked connection → (e : End) × IsWhole config within exchange e
+      → NoneIsFoundOver config within framings connection → AreTooManyUnder within framings connection config
+  whole_many config exchange tells clocked whole (inl none) =
+      absurd (none.none whole.0 (other_whole framings connection clocked exchange none.exchange tells none.tells config within whole.0 whole.1))
+  whole_many config exchange tells clocked whole (inr many) = many
 
-  pub whole_too_long : (config : Config) (known : TooLong) → IsClocked connection → IsWholeOver session within framings connection config → NoneIsFoundOver config within framings connection
-      → IsTooLongOver session within framings connection known
-  whole_too_long config known clocked w (inl none) =
-      let (e, whole) = w.is_so.1 in
-      absurd
-      (none.none e
-      (other_whole framings connection clocked w.exchange none.exchange w.tells none.tells config within e
-      (subst (λ (c : Config). IsWhole c within w.exchange e) (sym w.is_so.0) whole)))
-  whole_too_long config known clocked w (inr many) =
-      let sent = values_sent framings connection clocked w.exchange many.exchange w.tells many.tells in
-      let received = values_received framings connection clocked w.exchange many.exchange w.tells many.tells in
-      record {
-        exchange = many.exchange;
-        tells = many.tells;
-        own = w.own;
-        peers = w.peers;
-        told = w.told;
-        widest = w.widest;
-        has_own = subst (λ (rs : List ShownRecord). HasOwnOpen rs w.own) (same_sent w.exchange.sent.now many.exchange.sent.now sent) w.has_own;
-        has_peers = subst (λ (rs : List ShownRecord). HasPeersOpen rs w.peers) (same_received w.exchange.received.now many.exchange.received.now received) w.has_peers;
-        are_told = w.are_told;
-        made = w.made;
-        wants = w.wants;
-        under = w.under;
-        is_under = w.is_under;
-        is_so = inr (subst (λ (c : Config). AreTooMany c within many.exchange) w.is_so.0 many.holds);
-      }
-
-  -- what wasn't known before
-  pub too_many : (known : TooLong) → known.wanting ≡ false → known.another ≡ false → IsTooLongOver session within framings connection known
-      → AreTooManyOver session within framings connection
-  too_many known wanting another w = record {
-    exchange = w.exchange;
-    tells = w.tells;
-    own = w.own;
-    peers = w.peers;
-    told = w.told;
+  -- where the search is too long
+  pub too_many : (its : TooLong) → IsTooLongOver session within framings connection its → AreTooManyOver session within framings connection
+  too_many its w = record {
     widest = w.widest;
-    has_own = w.has_own;
-    has_peers = w.has_peers;
-    are_told = w.are_told;
-    made = w.made;
-    wants = w.wants;
-    under = w.under;
-    is_under = w.is_under;
-    is_so = not_known known wanting another w.wants (AreTooMany w.under within w.exchange) w.is_so;
+    are = w.are;
+    some = some_named within framings connection w.widest.wanting w.widest.another its w.named;
+    each = each_named within framings connection w.widest.wanting w.widest.another its w.named;
   }
 
   -- ---- a message that no order explains, where another order explains all

@@ -1,5 +1,5 @@
 -- What is told of an end, by the order in which it is told.
-use Rattle.std.proofs.Common.{◌≡◌, ◌∙◌, ◌⊎◌, Bool, true, ℕ, List, [], Option, None, Some, IfSome, ap, inl, inr, sym, subst, refl}
+use Rattle.std.proofs.Common.{◌≡◌, ◌∙◌, ◌⊎◌, Bool, true, false, ℕ, List, [], Option, None, Some, IfSome, ap, inl, inr, sym, subst, refl}
 use Rattle.bgp_prefix.specs.Shown.{ShownRecord}
 use Rattle.bgp_prefix.specs.declared.session.Session.{Session}
 use Rattle.segments.specs.declared.found.Endpoint.{Endpoint}
@@ -146,11 +146,25 @@ module _ (session : Session) (within : ℕ) (framings : Framings) (connection : 
   message_found (JudgedAs number peer under (No count)) found unexplained some it is = subst (λ (o : Option NoOrder). IfSome o (IsUnexplained session within framings connection)) (sym some) is
   message_found (JudgedAs number peer under Unfinished) found unexplained some it is = absurd it
 
-  pub yes_not_late : (answer : AnswerValue) (late : Option Late) → IsYes answer → late ≡ None → IsLate session connection answer late
-  yes_not_late (Unjudged why) late it none = absurd it
-  yes_not_late (JudgedAs number peer under (Yes ends)) late it none = none
-  yes_not_late (JudgedAs number peer under (No count)) late it none = absurd it
-  yes_not_late (JudgedAs number peer under Unfinished) late it none = absurd it
+  pub yes_not_late : (answer : AnswerValue) (late : Option Late) (lacks : Bool) → IsYes answer → late ≡ None → lacks ≡ false → IsLate session connection answer late lacks
+  yes_not_late (Unjudged why) late lacks it none memory = absurd it
+  yes_not_late (JudgedAs number peer under (Yes ends)) late lacks it none memory = (none, memory)
+  yes_not_late (JudgedAs number peer under (No count)) late lacks it none memory = absurd it
+  yes_not_late (JudgedAs number peer under Unfinished) late lacks it none memory = absurd it
+
+-- what it becomes
+pub late_so : (session : Session) (connection : Connection) (answer : AnswerValue) (late late' : Option Late) (lacks lacks' : Bool) → late ≡ late' → lacks ≡ lacks'
+    → IsLate session connection answer late' lacks' → IsLate session connection answer late lacks
+late_so session connection answer late late' lacks lacks' same_late same_lacks is =
+    subst (λ (l : Option Late). IsLate session connection answer l lacks) (sym same_late)
+    (subst (λ (b : Bool). IsLate session connection answer late' b) (sym same_lacks) is)
+
+-- the reason of a yes is about no no
+pub yes_not_asked : (answer : AnswerValue) (asked_at : Option ℕ) → IsYes answer → asked_at ≡ None → asked_at ≡ no_count answer
+yes_not_asked (Unjudged why) asked_at it none = absurd it
+yes_not_asked (JudgedAs number peer under (Yes ends)) asked_at it none = none
+yes_not_asked (JudgedAs number peer under (No count)) asked_at it none = absurd it
+yes_not_asked (JudgedAs number peer under Unfinished) asked_at it none = absurd it
 
 -- the reason of a yes is about no no
 pub yes_not_asked : (answer : AnswerValue) (asked_at : Option ℕ) → IsYes answer → asked_at ≡ None → asked_at ≡ no_count answer
@@ -226,7 +240,7 @@ pub told_so : (options : CheckOptions) (asked : Asked) (end : Endpoint) (session
     → (told.order ≡ orders.Made → told.found ≡ None → HasCause session options.within framings connection its told.over_all told.lacks_memory) → told.place ≡ place_of its told.found entries
     → IsOther session framings.sent.limit (peer_end session connection) (records_of entries) told.found told.in_made told.other → told.first ≡ second_at entries 0
     → told.put_off ≡ put_off 0 entries → told.within ≡ options.within
-    → IsLate session connection its told.late → IsReached (records_of entries) its told.reached
+    → IsLate session connection its told.late told.lacks_memory_later → IsReached (records_of entries) its told.reached
     → (instead : OtherOrders) → AreInstead options.within framings connection entries about told.found instead
     → IsReasonTo session framings.sent.limit (second_at entries 0) true (peer_end session connection) (shown_places entries) instead (records_of entries) about told.deed told.reason → told.asked_at ≡ no_count about
     → told.received ≡ received → told.sent ≡ sent
@@ -253,7 +267,7 @@ told_so options asked end session connection framings entries received sent told
       is_first = is_first;
       is_put_off = is_put_off;
       is_within = is_within;
-      is_late = subst (λ (a : AnswerValue). IsLate session connection a told.late) (sym same) is_late;
+      is_late = subst (λ (a : AnswerValue). IsLate session connection a told.late told.lacks_memory_later) (sym same) is_late;
       is_reached = subst (λ (a : AnswerValue). IsReached (records_of entries) a told.reached) (sym same) is_reached;
       instead = instead;
       are_instead = are_instead;

@@ -51,6 +51,27 @@ shown_by : (entries : List Entry) → map (λ (n : Numbered). n.shown) (map numb
 shown_by [] = refl
 shown_by (e ∷ entries) = ap (λ (rest : List ShownRecord). shown_of e.record ∷ rest) (shown_by entries)
 
+-- ---- of entries that tell a connection
+
+module _ (within : ℕ) (framings : Framings) (connection : Connection) (entries : List Entry) (received sent : Unshown) (recorded : IsRecorded framings within connection entries received sent) where
+  -- their records are those of the events that they tell
+  pub recorded_shows : records_of entries ≡ records_of_way connection.second (opened_state connection.opened_by) recorded.tells.events
+  recorded_shows =
+      let start = opened_state connection.opened_by in
+      sym (shown_by entries) ∙ ap (map (λ (n : Numbered). n.shown)) recorded.tells.shown
+      ∙ ap (λ (rs : List ShownRecord). shown.Changed connection.second 1 (state_number start) ∷ rs) (same_records start Other recorded.tells.events)
+
+  -- and the first message that is such is that of their messages
+  pub recorded_sent : (Is : List ℕ → Type 0) (found : Option (List ℕ)) → FirstSent Is (records_of entries) found → FirstSent Is (records_sent recorded.sent) found
+  recorded_sent Is found first =
+      subst (λ (ms : List Message). FirstSent Is (records_sent ms) found) recorded.tells.allowed.of_sent
+      (first_sent Is (opened_state connection.opened_by) Other recorded.tells.events [] found (subst (λ (rs : List ShownRecord). FirstSent Is rs found) recorded_shows first))
+
+  pub recorded_received : (Is : List ℕ → Type 0) (found : Option (List ℕ)) → FirstReceived Is (records_of entries) found → FirstReceived Is (records_received recorded.received) found
+  recorded_received Is found first =
+      subst (λ (ms : List Message). FirstReceived Is (records_received ms) found) recorded.tells.allowed.of_received
+      (first_received Is (opened_state connection.opened_by) Other recorded.tells.events [] found (subst (λ (rs : List ShownRecord). FirstReceived Is rs found) recorded_shows first))
+
 -- ---- of a connection
 
 module _ (within : ℕ) (framings : Framings) (connection : Connection) (exchange : Exchange) (tells : TellsConnection framings connection exchange) (clocked : IsClocked connection) where

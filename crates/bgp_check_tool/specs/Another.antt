@@ -14,7 +14,7 @@ use Rattle.bgp_check.specs.Answered.{AnswerValue, IsAnswerTo, JudgedAs, Unjudged
 use Rattle.bgp_check_tool.specs.declared.another.Searched.{Searched}
 use Rattle.bgp_check_tool.specs.declared.another.Searched.TheVariants as searches
 use Rattle.bgp_check_tool.specs.declared.orders.TooLong.{TooLong}
-use Rattle.bgp_check_tool.specs.Orders.{IsTooLongOver, IsUnexplained, IsUnfinished}
+use Rattle.bgp_check_tool.specs.Orders.{AreKnown, IsTooLongOver, IsUnexplained, IsUnfinished}
 
 -- ---- answers
 
@@ -79,15 +79,17 @@ pub record IsOfAnOrder (session : Session) (within : ℕ) (framings : Framings)
   pub answers : IsAnswerTo session (records_of entries) answer
 
 -- Where this is answered of the made order, nothing is asked of the others if that is a yes, or no
--- judgement; and nothing is found if memory is refused for the search, or if it is too long, as was
--- known under these configurations or is found. The other order is one that the packets allow.
+-- judgement; and nothing is found if memory is refused for the search, or if it is too long under
+-- these configurations, if what was known of them is so. The other order is one that the packets
+-- allow.
 abbrev pub IsFound : {X : Type 0} → Session → ℕ → Framings → Connection → TooLong → AnswerValue
     → Searched X → Type 0
 IsFound session within framings connection known answer searches.Nothing =
     ¬ IsNoYes answer
 IsFound session within framings connection known answer searches.NoMemory = Unit {0}
 IsFound session within framings connection known answer (searches.TooLong its) =
-    IsTooLongOver session within framings connection known
+    AreKnown session within framings connection known
+    → IsTooLongOver session within framings connection its
 IsFound session within framings connection known answer (searches.NoOrder found) =
     IsUnexplained session within framings connection found
 IsFound session within framings connection known answer (searches.Unfinished its) =

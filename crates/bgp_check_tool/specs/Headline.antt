@@ -92,8 +92,8 @@ NoneIsWhole =
     (seen_from side connection)
 
 -- A no or an unfinished that isn't known to hold over all orders is about one only if more nodes
--- are reached, under one of the end's widest configurations, than the search over all looks at, or
--- if memory is refused for that search.
+-- are reached, under one of the end's widest configurations, than the search over all looks at, and
+-- under each of these that is so, or no order is whole; or if memory is refused for that search.
 abbrev pub OneOrderHasACause : Type 0
 OneOrderHasACause =
     (options : CheckOptions) (asked : Asked) (session : Session) (opening : Opening)

@@ -12,12 +12,14 @@ use Rattle.bgp_recording.specs.declared.framing.Unshown.{Unshown}
 use Rattle.bgp_orders.specs.WholeWays.{AreOfAWayOver}
 use Rattle.bgp_check.specs.Answered.{AnswerValue, IsAnswerTo, JudgedAs, Unjudged}
 use Rattle.bgp_check.specs.declared.peer_as.PeerAs.{PeerAs}
-use Rattle.bgp_check_tool.specs.Another.{IsNo, IsNoYes, IsYes, number_in}
+use Rattle.bgp_check_tool.specs.Another.{IsLeft, IsNo, IsNoYes, IsYes, number_in}
 use Rattle.bgp_check_lines.specs.Values.{late_line}
 use Rattle.bgp_check_tool.specs.declared.late.Late.{Late}
 use Rattle.bgp_check_tool.specs.declared.late.Late.TheVariants as lates
 use Rattle.bgp_check_tool.specs.Made.{IsMade}
-use Rattle.bgp_check_tool.specs.Orders.{IsUnfinished}
+use Rattle.bgp_check_tool.specs.Orders.{AreKnown, AreTooManyOver, IsUnexplained, IsUnfinished}
+use Rattle.bgp_check_tool.specs.declared.orders.NoOrder.{NoOrder}
+use Rattle.bgp_check_tool.specs.declared.orders.TooLong.{TooLong}
 
 -- ---- what it becomes
 
@@ -57,15 +59,30 @@ module _ (session : Session) (connection : Connection) where
     pub over : IsUnfinished session 65535 framings connection peer under
     pub is : answer ≡ JudgedAs (number_in of_made) peer under Unfinished
 
-  -- this is answered over all orders, if that is answered of the made one
-  abbrev pub IsAnsweredOver : Framings → AnswerValue → AnswerValue → Type 0
-  IsAnsweredOver framings of_made answer =
-      (answer ≡ of_made) ⊎ IsAnsweredByAnother framings of_made answer
-      ⊎ IsAnsweredByAll framings of_made answer
+  -- What is answered of the made order is left for a cause. It is a yes, or no judgement. Or it is a
+  -- no, and over all orders no order explains some sent message; or unfinished, and so it is over all
+  -- orders. Or the search over them is too long: then no order is whole under a widest configuration
+  -- under which it isn't.
+  abbrev pub IsLeftAsMade : Framings → AnswerValue → Type 0
+  IsLeftAsMade framings of_made =
+      (¬ IsNoYes of_made)
+      ⊎ (IsNo of_made
+      × ((found : NoOrder) × IsUnexplained session 65535 framings connection found))
+      ⊎ (IsLeft of_made × ((peer : PeerAs) × (under : Config)
+      × IsUnfinished session 65535 framings connection peer under))
+      ⊎ AreTooManyOver session 65535 framings connection
+
+  -- This is answered over all orders, if that is answered of the made one. Where memory is refused
+  -- for the search over them, that is left.
+  abbrev pub IsAnsweredOver : Framings → AnswerValue → Bool → AnswerValue → Type 0
+  IsAnsweredOver framings of_made true answer = answer ≡ of_made
+  IsAnsweredOver framings of_made false answer =
+      ((answer ≡ of_made) × IsLeftAsMade framings of_made)
+      ⊎ IsAnsweredByAnother framings of_made answer ⊎ IsAnsweredByAll framings of_made answer
 
   -- A message may be handled up to 65535 seconds after it came: this is answered then, over all
-  -- orders or of the made one.
-  pub record IsAnsweredLater (answer : AnswerValue) : Type 0 where
+  -- orders or of the made one. Or memory is refused for the search over them.
+  pub record IsAnsweredLater (lacks_memory : Bool) (answer : AnswerValue) : Type 0 where
     pub entries : List Entry
     pub received_unshown : Unshown
     pub sent_unshown : Unshown
@@ -73,23 +90,35 @@ module _ (session : Session) (connection : Connection) where
     pub made : IsMade 65535 connection framings entries received_unshown sent_unshown
     pub of_made : AnswerValue
     pub answers : IsAnswerTo session (records_of entries) of_made
-    pub over : IsAnsweredOver framings of_made answer
+    pub over : IsAnsweredOver framings of_made lacks_memory answer
 
   -- so that the verdict becomes this, or stays
-  pub record IsLateOf (verdict : VerdictValue) (late : Option Late) : Type 0 where
-    pub later : AnswerValue
-    pub is_later : IsAnsweredLater later
-    pub is : late ≡ late_by verdict later
+  pub record IsLateOf (verdict : VerdictValue) (late : Option Late) (lacks_memory : Bool) : Type 0
+    where
+      pub later : AnswerValue
+      pub is_later : IsAnsweredLater lacks_memory later
+      pub is : late ≡ late_by verdict later
 
   -- a yes is judged once
-  abbrev pub IsLateFor : VerdictValue → Option Late → Type 0
-  IsLateFor (Yes ends) late = late ≡ None
-  IsLateFor (No count) late = IsLateOf (No count) late
-  IsLateFor Unfinished late = IsLateOf Unfinished late
+  abbrev pub IsLateFor : VerdictValue → Option Late → Bool → Type 0
+  IsLateFor (Yes ends) late lacks_memory = (late ≡ None) × (lacks_memory ≡ false)
+  IsLateFor (No count) late lacks_memory = IsLateOf (No count) late lacks_memory
+  IsLateFor Unfinished late lacks_memory = IsLateOf Unfinished late lacks_memory
 
-  abbrev pub IsLate : AnswerValue → Option Late → Type 0
-  IsLate (Unjudged why) late = late ≡ None
-  IsLate (JudgedAs number peer under verdict) late = IsLateFor verdict late
+  abbrev pub IsLate : AnswerValue → Option Late → Bool → Type 0
+  IsLate (Unjudged why) late lacks_memory = (late ≡ None) × (lacks_memory ≡ false)
+  IsLate (JudgedAs number peer under verdict) late lacks_memory =
+      IsLateFor verdict late lacks_memory
+
+  -- The connection is framed so that the search over all its orders, within so many seconds, is too
+  -- long under these of the end's widest configurations.
+  pub record AreKnownFor (within : ℕ) (known : TooLong) : Type 0 where
+    pub entries : List Entry
+    pub received_unshown : Unshown
+    pub sent_unshown : Unshown
+    pub framings : Framings
+    pub made : IsMade within connection framings entries received_unshown sent_unshown
+    pub are : AreKnown session within framings connection known
 
 -- ---- how it is told
 

@@ -1,12 +1,11 @@
 -- What is known of the ends whose answers are printed: where a no stands.
-use Rattle.std.specs.Prelude.{◌≡◌, ◌++◌, ℕ, Bool, List, [], ◌∷◌, Option, None, Some, IsFalse}
+use Rattle.std.specs.Prelude.{◌≡◌, ◌++◌, ℕ, List, [], ◌∷◌, Option, None, Some, IsFalse}
 use Rattle.std.specs.Prelude.{if◌then◌else◌}
 use Rattle.std.specs.List.{flat_map}
 use Rattle.bgp_judge.specs.Verdict.{No, Unfinished, VerdictValue, Yes}
 use Rattle.bgp_check.specs.Answered.{AnswerValue, JudgedAs, Unjudged}
 use Rattle.bgp_check_lines.specs.Quiet.{is_left_out}
 use Rattle.bgp_check_lines.specs.Printing.{Printing}
-use Rattle.bgp_check_tool.specs.declared.another.Order.{Order}
 use Rattle.bgp_check_tool.specs.declared.marks.BothMarks.{BothMarks}
 use Rattle.bgp_check_tool.specs.declared.marks.EndMark.{EndMark}
 use Rattle.bgp_check_tool.specs.declared.marks.Marks.{Marks}
@@ -23,22 +22,25 @@ no_at (No count) None = noes.Record count
 no_at (No count) (Some found) = noes.Message found.unexplained.before
 no_at Unfinished found = noes.Nowhere
 
--- of an end that is judged
-abbrev pub mark_by : AnswerValue → Order → Bool → Option NoOrder → Option ℕ → Option EndMark
-mark_by (Unjudged why) order lacks_memory found asked = None
-mark_by (JudgedAs number peer under verdict) order lacks_memory found asked =
-    Some (record {
-      order = order;
-      no = no_at verdict found;
-      asked = asked;
-      lacks_memory = lacks_memory;
-    })
+-- of an end of which this is told, with this verdict
+abbrev pub mark_by : VerdictValue → EndTold → EndMark
+mark_by verdict told = record {
+  order = told.order;
+  no = no_at verdict told.found;
+  asked = told.asked_at;
+  lacks_memory = told.lacks_memory;
+  lacks_memory_later = told.lacks_memory_later;
+}
+
+-- if it is judged
+abbrev pub mark_if : AnswerValue → EndTold → Option EndMark
+mark_if (Unjudged why) told = None
+mark_if (JudgedAs number peer under verdict) told = Some (mark_by verdict told)
 
 -- and isn't left out
 abbrev pub end_mark : Printing → EndTold → Option EndMark
 end_mark printing told =
-    if is_left_out printing.quiet told.answer then None
-    else mark_by told.answer told.order told.lacks_memory told.found told.asked_at
+    if is_left_out printing.quiet told.answer then None else mark_if told.answer told
 
 -- of both ends of a connection
 abbrev pub block_marks : Printing → Block → List BothMarks

@@ -2,27 +2,28 @@
 -- yes: the verdict over all of them, under the widest configurations of the end.
 use Rattle.std.specs.Prelude.{◌≡◌, ◌⊎◌, ◌+◌, ◌<◌, ℕ, Bool, true, false, List, Option, None}
 use Rattle.std.specs.Prelude.{Some, IfSome, length, map, nat_lt, option_map, slice_get, take}
+use Rattle.mrt.specs.Reader.{shown_of}
 use Rattle.bgp_prefix.specs.Shown as shown
 use Rattle.bgp_prefix.specs.Shown.{ShownRecord}
 use Rattle.bgp_prefix.specs.declared.session.Session.{Session}
 use Rattle.streams.specs.declared.connection.Connection.{Connection}
 use Rattle.bgp_open.specs.declared.config.Config.{Config}
 use Rattle.bgp_open.specs.Open.{OpenFields, open_of}
-use Rattle.bgp_machine.specs.Lists.{Each}
+use Rattle.bgp_machine.specs.Lists.{Each, Has}
 use Rattle.bgp_machine.specs.Run.{End}
 use Rattle.bgp_judge.specs.Verdict as verdicts
 use Rattle.bgp_judge.specs.Verdict.{VerdictValue}
+use Rattle.bgp_recording.specs.Captured.{records_of}
 use Rattle.bgp_recording.specs.declared.framing.Framings.{Framings}
+use Rattle.bgp_recording.specs.declared.making.Recording.{Recording}
 use Rattle.bgp_recording.specs.declared.message.Message.{Message}
 use Rattle.bgp_recording.specs.declared.ordering.Exchange.{Exchange}
-use Rattle.bgp_orders.specs.Connections.{IsPacketOf, TellsConnection}
-use Rattle.bgp_orders.specs.Explained.{HasVerdictOver, IsExplained, IsWhole, VerdictOver}
-use Rattle.bgp_orders.specs.Explained.{Yes, No, Unfinished}
-use Rattle.bgp_orders.specs.Many.{AreTooMany}
-use Rattle.bgp_orders.specs.Rows.{IsAnswer}
+use Rattle.bgp_orders.specs.Connections.{IsOverOrders, IsPacketOf, TellsConnection}
+use Rattle.bgp_orders.specs.Explained.{HasVerdictOver, IsExplained, IsWhole, ShowARun}
+use Rattle.bgp_orders.specs.Explained.{Yes, No, Unfinished, VerdictOver}
+use Rattle.bgp_orders.specs.WholeWays.{AreOfAWayOver, NoneIsFoundOver, NoneIsWholeOver}
+use Rattle.bgp_orders.specs.declared.connection.OverOrders.TheVariants as all_orders
 use Rattle.bgp_orders.specs.declared.connection.Unexplained.{Unexplained}
-use Rattle.bgp_orders.specs.declared.explained.Explained.{Explained}
-use Rattle.bgp_orders.specs.declared.explained.Explained.TheVariants as answers
 use Rattle.bgp_parts.specs.Opens.{HasOwnOpen, HasPeersOpen}
 use Rattle.bgp_check.specs.Answered.{AnswerValue, HasFault, JudgedAs, Unjudged, heard_as}
 use Rattle.bgp_check.specs.Answered.{peer_as_by}
@@ -36,6 +37,8 @@ use Rattle.bgp_check.specs.declared.widest.Widest.{Widest}
 use Rattle.bgp_check_tool.specs.declared.orders.NoOrder.{NoOrder}
 use Rattle.bgp_check_tool.specs.declared.orders.Said.{Said}
 use Rattle.bgp_check_tool.specs.declared.orders.Said.TheVariants as said
+use Rattle.bgp_check_tool.specs.declared.orders.Finding.{Finding}
+use Rattle.bgp_check_tool.specs.declared.orders.Finding.TheVariants as findings
 use Rattle.bgp_check_tool.specs.declared.orders.TooLong.{TooLong}
 
 -- ---- messages
@@ -72,44 +75,106 @@ pub record IsToldOver (widest : Widest) (within : ℕ) (exchange : Exchange) (wa
   pub first : wants ≡ false
       → IfSome widest.wanting (λ config. ¬ HasVerdictOver config within exchange verdict)
 
--- Of two answers of the search the other is told: told is the first by which some order is whole;
--- else that the search was too long, if one was; else the first that explains all; else the one
--- that explains more, of equals the first.
-abbrev pub tells_other : Explained → Explained → Bool
-tells_other (answers.All true) other = false
-tells_other one (answers.All true) = true
-tells_other answers.TooMany other = false
-tells_other one answers.TooMany = true
-tells_other (answers.All false) other = false
-tells_other one (answers.All false) = true
-tells_other (answers.Only count) (answers.Only later) = nat_lt count later
+-- ---- what the search finds
 
--- under the one of both widest configurations the search is known to be too long
+-- under this one of both widest configurations the search is too long
 abbrev pub known_of : TooLong → Bool → Bool
 known_of known true = known.wanting
 known_of known false = known.another
 
--- what the search answers under a configuration; if it is known to be too long, it isn't made
-abbrev pub IsAnswerUnless : Bool → Config → ℕ → Exchange → Explained → Type 0
-IsAnswerUnless too_long config within exchange (answers.All is_whole) =
-    IsAnswer config within exchange (answers.All is_whole)
-IsAnswerUnless too_long config within exchange (answers.Only count) =
-    IsAnswer config within exchange (answers.Only count)
-IsAnswerUnless too_long config within exchange answers.TooMany =
-    (too_long ≡ true) ⊎ AreTooMany config within exchange
+-- some order is whole
+abbrev pub is_whole : {X : Type 0} → Finding X → Bool
+is_whole (findings.Whole recording) = true
+is_whole findings.Unfinished = false
+is_whole (findings.Only count) = false
+is_whole findings.TooMany = false
 
--- This is answered under that configuration, one of both. That some order is whole under it is no
--- verdict yet: its records are judged.
-abbrev pub IsSaidOver : Widest → ℕ → Exchange → TooLong → Bool → Config → Explained → Type 0
-IsSaidOver widest within exchange known wants under (answers.All true) =
-    IsUnder widest wants under × HasVerdictOver under within exchange Yes
-IsSaidOver widest within exchange known wants under (answers.All false) =
-    IsToldOver widest within exchange wants under Unfinished
-IsSaidOver widest within exchange known wants under (answers.Only count) =
-    IsToldOver widest within exchange wants under (No count)
-IsSaidOver widest within exchange known wants under answers.TooMany =
-    IsUnder widest wants under
-    × ((known_of known wants ≡ true) ⊎ AreTooMany under within exchange)
+-- there are too many nodes
+abbrev pub is_too_many : {X : Type 0} → Finding X → Bool
+is_too_many (findings.Whole recording) = false
+is_too_many findings.Unfinished = false
+is_too_many (findings.Only count) = false
+is_too_many findings.TooMany = true
+
+-- Of what is found under two configurations the other is told: told is the first that some order is
+-- whole; else that there are too many nodes, if there are; else the first that explains all; else
+-- the one that explains more, of equals the first.
+abbrev pub tells_other : {X : Type 0} → Finding X → Finding X → Bool
+tells_other (findings.Whole recording) other = false
+tells_other one (findings.Whole recording) = true
+tells_other findings.TooMany other = false
+tells_other one findings.TooMany = true
+tells_other findings.Unfinished other = false
+tells_other one findings.Unfinished = true
+tells_other (findings.Only count) (findings.Only later) = nat_lt count later
+
+-- Of the orders of the messages of a connection, framed so, where a received message is handled
+-- within so many seconds after it came.
+module _ (within : ℕ) (framings : Framings) (connection : Connection) where
+  -- under this configuration more nodes are reached than the search looks at
+  abbrev pub AreTooManyUnder : Config → Type 0
+  AreTooManyUnder config = IsOverOrders config within framings connection all_orders.TooMany
+
+  -- so it is under one of these two, as is known
+  abbrev pub AreKnownOf : Widest → TooLong → Type 0
+  AreKnownOf widest known =
+      (wants : Bool) (under : Config) → IsUnder widest wants under
+      → known_of known wants ≡ true → AreTooManyUnder under
+
+  -- the records of an order that is whole under this configuration: those of a way that a run shows
+  pub record IsWholeWay {X : Type 0} (config : Config) (recording : Recording X) : Type 0 where
+    pub way : AreOfAWayOver framings within connection recording.entries.items
+        recording.received recording.sent
+    pub run : ShowARun config (records_of recording.entries.items)
+
+  -- this is found under that configuration, if what is known of it is so
+  abbrev pub IsFinding : {X : Type 0} → Config → Exchange → Bool → Finding X → Type 0
+  IsFinding config exchange known (findings.Whole recording) = IsWholeWay config recording
+  IsFinding config exchange known findings.Unfinished =
+      HasVerdictOver config within exchange Unfinished
+  IsFinding config exchange known (findings.Only count) =
+      HasVerdictOver config within exchange (No count)
+  IsFinding config exchange known findings.TooMany =
+      (known ≡ true → AreTooManyUnder config) → AreTooManyUnder config
+
+  -- If the search is named as too long under this configuration, it is. If it isn't named, no order
+  -- is whole.
+  abbrev pub IsNamed : Bool → Config → Type 0
+  IsNamed true config = AreTooManyUnder config
+  IsNamed false config = NoneIsWholeOver config within framings connection
+
+  -- These of two configurations are named, or that of one; one of them is.
+  abbrev pub AreNamed : Option Config → Config → TooLong → Type 0
+  AreNamed None another its =
+      (its.wanting ≡ false) × (its.another ≡ true) × IsNamed true another
+  AreNamed (Some wanting) another its =
+      IsNamed its.wanting wanting × IsNamed its.another another
+      × ((its.wanting ≡ true) ⊎ (its.another ≡ true))
+
+  -- This is told under that configuration, one of both; or the search is too long under these, if
+  -- what is known of them is so.
+  abbrev pub IsSaidOver : {X : Type 0} → Widest → Exchange → TooLong → Bool → Config → TooLong
+      → Finding X → Type 0
+  IsSaidOver widest exchange known wants under its (findings.Whole recording) =
+      IsUnder widest wants under × IsWholeWay under recording
+  IsSaidOver widest exchange known wants under its findings.Unfinished =
+      IsToldOver widest within exchange wants under Unfinished
+  IsSaidOver widest exchange known wants under its (findings.Only count) =
+      IsToldOver widest within exchange wants under (No count)
+  IsSaidOver widest exchange known wants under its findings.TooMany =
+      AreKnownOf widest known → AreNamed widest.wanting widest.another its
+
+-- the records of a recording are those of its entries
+abbrev pub AreShown : {X : Type 0} → Recording X → Type 0
+AreShown recording =
+    map shown_of recording.records.items ≡ records_of recording.entries.items
+
+-- so they are of an order that is found to be whole
+abbrev pub FindsRecords : {X : Type 0} → Finding X → Type 0
+FindsRecords (findings.Whole recording) = AreShown recording
+FindsRecords findings.Unfinished = Unit {0}
+FindsRecords (findings.Only count) = Unit {0}
+FindsRecords findings.TooMany = Unit {0}
 
 -- the OPENs that are told with such a message: the end's, and its peer's
 abbrev pub own_of : NoOrder → Option (List ℕ)
@@ -119,25 +184,49 @@ abbrev pub peers_of : NoOrder → Option (List ℕ)
 peers_of found = option_map (λ octets. octets.now) found.peers
 
 -- a sent message would be the first that isn't explained, and there is none in its place
-abbrev pub IsNoMessage : Exchange → Explained → Type 0
-IsNoMessage exchange (answers.All is_whole) = ⊥
-IsNoMessage exchange (answers.Only count) = slice_get exchange.sent.now count ≡ None
-IsNoMessage exchange answers.TooMany = ⊥
+abbrev pub IsNoMessage : {X : Type 0} → Exchange → Finding X → Type 0
+IsNoMessage exchange (findings.Whole recording) = ⊥
+IsNoMessage exchange findings.Unfinished = ⊥
+IsNoMessage exchange (findings.Only count) = slice_get exchange.sent.now count ≡ None
+IsNoMessage exchange findings.TooMany = ⊥
 
--- What the answer under that configuration, which is for this peer, says: of a no with its message,
--- the configuration, and these OPENs.
-abbrev pub IsSaidBy : Exchange → Option (List ℕ) → Option (List ℕ) → PeerAs → Config → Explained
-    → Said → Type 0
-IsSaidBy exchange own peers peer under explained (said.Whole config) =
-    (explained ≡ answers.All true) × (config ≡ under)
-IsSaidBy exchange own peers peer under explained (said.NoOrder found) =
-    (explained ≡ answers.Only found.unexplained.before) × IsMessageOf exchange found
+-- What is said by what is found under that configuration, which is for this peer: of a no with its
+-- message, the configuration, and these OPENs; of a search that is too long under which it is.
+abbrev pub IsSaidBy : {X : Type 0} → Exchange → Option (List ℕ) → Option (List ℕ) → PeerAs
+    → Config → TooLong → Finding X → Said X → Type 0
+IsSaidBy exchange own peers peer under long finding (said.Whole config recording) =
+    (finding ≡ findings.Whole recording) × (config ≡ under)
+IsSaidBy exchange own peers peer under long finding (said.NoOrder found) =
+    (finding ≡ findings.Only found.unexplained.before) × IsMessageOf exchange found
     × (found.its.peer_as ≡ peer) × (found.its.under ≡ under)
     × (own_of found ≡ own) × (peers_of found ≡ peers)
-IsSaidBy exchange own peers peer under explained (said.Unfinished its) =
-    (explained ≡ answers.All false) × (its.peer_as ≡ peer) × (its.under ≡ under)
-IsSaidBy exchange own peers peer under explained (said.TooLong its) = explained ≡ answers.TooMany
-IsSaidBy exchange own peers peer under explained said.Neither = IsNoMessage exchange explained
+IsSaidBy exchange own peers peer under long finding (said.Unfinished its) =
+    (finding ≡ findings.Unfinished) × (its.peer_as ≡ peer) × (its.under ≡ under)
+IsSaidBy exchange own peers peer under long finding (said.TooLong its) =
+    (finding ≡ findings.TooMany) × (its ≡ long)
+IsSaidBy exchange own peers peer under long finding said.Neither = IsNoMessage exchange finding
+
+-- The local system of a session that has the connection so, framed so.
+module _ (session : Session) (framings : Framings) (connection : Connection) where
+  -- These are its widest configurations: those of the first well-formed OPEN that it sent and the
+  -- first OPEN that it received.
+  pub record AreItsWidest (widest : Widest) : Type 0 where
+    pub exchange : Exchange
+    pub tells : TellsConnection framings connection exchange
+    pub own : Option (List ℕ)
+    pub peers : Option (List ℕ)
+    pub told : Option OpenFields
+    pub has_own : HasOwnOpen (records_sent exchange.sent.now) own
+    pub has_peers : HasPeersOpen (records_received exchange.received.now) peers
+    pub are_told : AreTold peers told
+    pub made : parts_of widest ≡ widest_of session (option_map open_of own) told
+
+  -- this is one of them
+  pub record IsAWidest (config : Config) : Type 0 where
+    pub widest : Widest
+    pub are : AreItsWidest widest
+    pub wants : Bool
+    pub is_under : IsUnder widest wants config
 
 -- The local system of a session that has the connection so, framed so, where a received message is
 -- handled within so many seconds after it came.
@@ -183,40 +272,31 @@ module _ (session : Session) (within : ℕ) (framings : Framings) (connection : 
   IsKnown false = Unit {0}
   IsKnown true = (peer : PeerAs) × (under : Config) × IsUnfinished peer under
 
-  -- This is so of one of its widest configurations, by the same OPENs.
-  pub record IsOfWidest (Is : Exchange → Bool → Config → Type 0) : Type 0 where
-    pub exchange : Exchange
-    pub tells : TellsConnection framings connection exchange
-    pub own : Option (List ℕ)
-    pub peers : Option (List ℕ)
-    pub told : Option OpenFields
+  -- these are the records of an order that is whole under this one of them
+  pub record IsWholeOver {X : Type 0} (config : Config) (recording : Recording X) : Type 0 where
+    pub is_widest : IsAWidest session framings connection config
+    pub is_whole : IsWholeWay within framings connection config recording
+
+  -- Under one of them more nodes are reached than the search looks at. Under each of them either
+  -- that is so, or no order is whole.
+  pub record AreTooManyOver : Type 0 where
     pub widest : Widest
-    pub has_own : HasOwnOpen (records_sent exchange.sent.now) own
-    pub has_peers : HasPeersOpen (records_received exchange.received.now) peers
-    pub are_told : AreTold peers told
-    pub made : parts_of widest ≡ widest_of session (option_map open_of own) told
-    pub wants : Bool
-    pub under : Config
-    pub is_under : IsUnder widest wants under
-    pub is_so : Is exchange wants under
+    pub are : AreItsWidest session framings connection widest
+    pub some : Has (AreTooManyUnder within framings connection) (configurations_of widest)
+    pub each : Each (λ config. NoneIsFoundOver config within framings connection)
+        (configurations_of widest)
 
-  -- some order is whole under this one
-  abbrev pub IsWholeOver : Config → Type 0
-  IsWholeOver config = IsOfWidest
-      (λ exchange wants under. (config ≡ under) × HasVerdictOver under within exchange Yes)
+  -- So it is under those that are named, and no order is whole under one that isn't.
+  pub record IsTooLongOver (its : TooLong) : Type 0 where
+    pub widest : Widest
+    pub are : AreItsWidest session framings connection widest
+    pub named : AreNamed within framings connection widest.wanting widest.another its
 
-  -- this is one of them
-  abbrev pub IsAWidest : Config → Type 0
-  IsAWidest config = IsOfWidest (λ exchange wants under. config ≡ under)
-
-  -- under one of them more nodes are reached than the search looks at
-  abbrev pub AreTooManyOver : Type 0
-  AreTooManyOver = IsOfWidest (λ exchange wants under. AreTooMany under within exchange)
-
-  -- so it is, or that was known before
-  abbrev pub IsTooLongOver : TooLong → Type 0
-  IsTooLongOver known = IsOfWidest (λ exchange wants under.
-      (known_of known wants ≡ true) ⊎ AreTooMany under within exchange)
+  -- so it is known of these
+  abbrev pub AreKnown : TooLong → Type 0
+  AreKnown known =
+      (widest : Widest) → AreItsWidest session framings connection widest
+      → AreKnownOf within framings connection widest known
 
   -- the OPEN that it sent offers neither family, so that it has no widest configuration
   pub record IsOfNoFamily : Type 0 where
@@ -226,12 +306,12 @@ module _ (session : Session) (within : ℕ) (framings : Framings) (connection : 
     pub has_own : HasOwnOpen (records_sent exchange.sent.now) own
     pub offers : OffersNone own
 
-  -- what the search says, which is known to be too long under these configurations
-  abbrev pub IsSaid : TooLong → Said → Type 0
-  IsSaid known (said.Whole config) = IsWholeOver config
+  -- what the search says, where this is known of it
+  abbrev pub IsSaid : {X : Type 0} → TooLong → Said X → Type 0
+  IsSaid known (said.Whole config recording) = IsWholeOver config recording
   IsSaid known (said.NoOrder found) = IsUnexplained found
   IsSaid known (said.Unfinished its) = IsUnfinished its.peer_as its.under
-  IsSaid known (said.TooLong its) = IsTooLongOver known
+  IsSaid known (said.TooLong its) = AreKnown known → IsTooLongOver its
   IsSaid known said.Neither = IsOfNoFamily
 
   -- such a message is found of a no alone; that none is found says nothing
@@ -243,6 +323,14 @@ module _ (session : Session) (within : ℕ) (framings : Framings) (connection : 
   abbrev pub IsFoundTo : AnswerValue → Option NoOrder → Type 0
   IsFoundTo (Unjudged why) found = found ≡ None
   IsFoundTo (JudgedAs number peer under verdict) found = IsFoundFor verdict found
+
+-- the records of a whole order are those of its entries
+abbrev pub SaysRecords : {X : Type 0} → Said X → Type 0
+SaysRecords (said.Whole config recording) = AreShown recording
+SaysRecords (said.NoOrder found) = Unit {0}
+SaysRecords (said.Unfinished its) = Unit {0}
+SaysRecords (said.TooLong its) = Unit {0}
+SaysRecords said.Neither = Unit {0}
 
 -- ---- what it says
 

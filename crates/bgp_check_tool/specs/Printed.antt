@@ -174,8 +174,9 @@ BeginWith word routes told = (rest : List ℕ) × (told_lines routes told ≡ wo
 -- them. Some run under one of these configurations shows those before it, if there is such a
 -- configuration: it is the record at which no run goes on. If there is none, for a fault of the
 -- OPEN, no record behind that OPEN is named. All of that is said of one order of the records, as a
--- note says. That is so only if memory is refused for the search over all orders, or if more nodes
--- are reached than it looks at.
+-- note says. That is so only if memory is refused for the search over all orders; or if more nodes
+-- are reached than it looks at under one of the end's widest configurations, and under each of these
+-- that is so, or no order is whole.
 pub record IsTrueNo (options : CheckOptions) (packets : List Recorded) (last_packet : ℕ)
     (session : Session) (opening : Opening) (side : Side) (told : EndTold) : Type 0 where
   pub entries : List Entry

@@ -71,6 +71,8 @@ pub record EndTold : Type 0 where
   pub within : ℕ
   -- what a no or an unfinished becomes, where it may be handled as late as it can be said
   pub late : Option Late
+  -- whether memory is refused for the search over all orders by which that is known
+  pub lacks_memory_later : Bool
   -- how far the session came before its end
   pub reached : ReachedValue
   -- what the impossible record of a no shows was done, and the lines on why it is a no or
@@ -101,6 +103,7 @@ told_value told = record {
   put_off = told.put_off;
   within = told.within;
   late = told.late;
+  lacks_memory_later = told.lacks_memory_later;
   reached = reached_value told.reached;
   deed = deed_text told.reason;
   reason = lines_text told.reason;
@@ -182,7 +185,8 @@ IsOfOneOrder (JudgedAs number peer under (No count)) over_all = Unit {0}
 IsOfOneOrder (JudgedAs number peer under Unfinished) over_all = over_all ≡ false
 
 -- Why that isn't known: memory is refused for the search over all orders; or under one of the end's
--- widest configurations more nodes are reached than it looks at.
+-- widest configurations more nodes are reached than it looks at, and under each of these that is so,
+-- or no order is whole.
 abbrev pub IsForCause : Session → ℕ → Framings → Connection → Bool → Type 0
 IsForCause session within framings connection lacks_memory =
     (lacks_memory ≡ true) ⊎ AreTooManyOver session within framings connection
@@ -195,9 +199,9 @@ HasCause session within framings connection answer over_all lacks_memory =
 -- what is answered of its records, or over all orders, and why, with what is said of other orders;
 -- of a no the first sent message that no order explains, if one is known; whether it is known to be
 -- unfinished over all orders; why it is about one order, if it holds of that alone; what the
--- answer becomes, where a message may be handled as late as it can be said; the line of a message
--- that it sent goes by the limit of its receiver. And how `bgp judge` gives it, where the
--- connection is asked for so.
+-- answer becomes, where a message may be handled as late as it can be said, or that memory is
+-- refused for that; the line of a message that it sent goes by the limit of its receiver. And how
+-- `bgp judge` gives it, where the connection is asked for so.
 pub record IsTold (options : CheckOptions) (asked : Asked) (end : Endpoint) (session : Session)
     (connection : Connection) (told : EndTold) : Type 0 where
   pub entries : List Entry
@@ -227,7 +231,7 @@ pub record IsTold (options : CheckOptions) (asked : Asked) (end : Endpoint) (ses
   pub is_first : told.first ≡ second_at entries 0
   pub is_put_off : told.put_off ≡ put_off 0 entries
   pub is_within : told.within ≡ options.within
-  pub is_late : IsLate session connection told.answer told.late
+  pub is_late : IsLate session connection told.answer told.late told.lacks_memory_later
   pub is_reached : IsReached (records_of entries) told.answer told.reached
   pub instead : OtherOrders
   pub are_instead : AreInstead options.within framings connection entries about told.found instead

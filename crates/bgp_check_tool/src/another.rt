@@ -1,22 +1,20 @@
 //! A yes of an end in another order than the made one, which the packets allow, too.
 
-ghost use Rattle.std.specs.Prelude.{◌≡◌, ◌↔◌, IfNone, IfOk, IfSome, IsTrue, map};
-ghost use Rattle.mrt.specs.Reader.{shown_of};
+ghost use Rattle.std.specs.Prelude.{◌≡◌, ◌↔◌, IfNone, IfOk, IfSome, IsTrue};
 ghost use Rattle.bgp_recording.specs.Captured.{records_of};
 ghost use Rattle.bgp_recording.specs.Gathered.{IsClocked, IsCovered};
-ghost use Rattle.bgp_orders.specs.WholeWays.{AreOfAWayOver, NoneIsFoundOver};
+ghost use Rattle.bgp_recording.specs.declared.framing.Framings.{Framings as TheFramings};
+ghost use Rattle.bgp_open.specs.declared.config.Config.{Config as TheConfig};
 ghost use Rattle.bgp_check.specs.Answered.{AnswerValue, IsAnswerTo, answer_value};
 ghost use Rattle.bgp_check_tool.specs.Another.{IsFound, IsNo, IsNoYes, IsOfAnOrder, IsSought};
 ghost use Rattle.bgp_check_tool.specs.Another.{IsYes};
-ghost use Rattle.bgp_check_tool.specs.Orders.{IsAWidest};
+ghost use Rattle.bgp_check_tool.specs.Orders.{AreShown, IsWholeOver};
 
 use crate::ending::Viewed;
 use crate::laws::no_order_has_a_run;
 use crate::orders::{NoOrder, Said, TooLong, Under, search_end};
 use bgp_check::{Answer, check_end};
 use bgp_judge::{Tracker, Verdict};
-use bgp_open::Config;
-use bgp_orders::record_whole_way;
 use bgp_recording::{Framings, Recording};
 use std::alloc::{AllocError, Allocator};
 
@@ -97,40 +95,27 @@ fn is_no_yes<A: Allocator>(answer: &Answer<A>) -> bool
     }
 }
 
-/// Returns the records of an order that is whole under this configuration, which are a yes if it is
-/// one of the end's widest, and another order is judged. So it returns none of such a one only if no
-/// order is whole under it, or if too many nodes are reached.
-fn another_under<'a, A: Allocator + Copy, T: Tracker<A>>(
+/// Returns what is answered of these records of an order that is whole, if that is a yes. It is if
+/// they are those under one of the end's widest configurations, and another order is judged.
+fn another_yes<'a, A: Allocator + Copy, T: Tracker<A>>(
     alloc: A,
     viewed: &Viewed<'a>,
-    framings: Framings,
-    config: &Config,
+    recording: Recording<'a, A>,
 ) -> Result<Option<AnotherOrder<'a, A>>, AllocError>
-    requires received { IsCovered viewed.now.connection.received }
-    requires sent { IsCovered viewed.now.connection.sent }
-    ensures records { IfOk result (λ found. IfSome found (λ another.
-        map shown_of another.recording.records.items
-        ≡ records_of another.recording.entries.items)) }
+    requires { AreShown recording }
+    ensures recording { IfOk result (λ found. IfSome found (λ another.
+        another.recording ≡ recording.entry)) }
     ensures answers { IfOk result (λ found. IfSome found (λ another. IsAnswerTo viewed.now.session
         (records_of another.recording.entries.items) (answer_value another.answer))) }
     ensures yes { IfOk result (λ found. IfSome found (λ another.
         IsYes (answer_value another.answer))) }
-    ensures way { IfOk result (λ found. IfSome found (λ another.
-        IsClocked viewed.now.connection
-        → AreOfAWayOver framings viewed.now.options.within viewed.now.connection
-        another.recording.entries.items another.recording.received another.recording.sent)) }
-    ensures none { IfOk result (λ found. IfNone found ((answer : AnswerValue)
-        → IsClocked viewed.now.connection → IsAWidest viewed.now.session
-        viewed.now.options.within framings viewed.now.connection config.now
+    ensures none { IfOk result (λ found. IfNone found ((framings : TheFramings)
+        (config : TheConfig) (answer : AnswerValue) → IsClocked viewed.now.connection
+        → IsWholeOver viewed.now.session viewed.now.options.within framings
+        viewed.now.connection config recording.entry
         → IsOfAnOrder viewed.now.session viewed.now.options.within framings
-        viewed.now.connection answer → IsNoYes answer
-        → NoneIsFoundOver config.now viewed.now.options.within framings viewed.now.connection)) }
+        viewed.now.connection answer → ¬ IsNoYes answer)) }
 {
-    let within = viewed.options.within;
-    let Some(recording) = record_whole_way(alloc, config, &viewed.connection, framings, within)?
-    else {
-        return Ok(None);
-    };
     let answer = check_end::<A, T>(alloc, &viewed.session, &recording.records)?;
     if !is_yes(&answer) {
         return Ok(None);
@@ -142,7 +127,8 @@ fn another_under<'a, A: Allocator + Copy, T: Tracker<A>>(
 /// a yes of another, if the answer isn't a yes; of a no the first sent message that no order
 /// explains, or that some order explains all of them and none is whole; that of an unfinished, too.
 /// Nothing is found only if the answer is a yes or no judgement; if memory is refused for the
-/// search; or if that is too long, as is known under these configurations or is found.
+/// search; or if that is too long, as is known under these configurations or is found, and no order
+/// is whole under another.
 pub(crate) fn search_orders<'a, A: Allocator + Copy, T: Tracker<A>>(
     alloc: A,
     viewed: &Viewed<'a>,
@@ -163,13 +149,11 @@ pub(crate) fn search_orders<'a, A: Allocator + Copy, T: Tracker<A>>(
         return Searched::Nothing;
     }
     match search_end(alloc, viewed, framings, known) {
-        Ok(Said::Whole(config)) => {
-            match another_under::<A, T>(alloc, viewed, framings, &config) {
-                Ok(Some(another)) => Searched::Another(another),
-                Ok(None) => Searched::TooLong(TooLong::unknown()),
-                Err(_) => Searched::NoMemory,
-            }
-        }
+        Ok(Said::Whole(_, recording)) => match another_yes::<A, T>(alloc, viewed, recording) {
+            Ok(Some(another)) => Searched::Another(another),
+            Ok(None) => Searched::Nothing,
+            Err(_) => Searched::NoMemory,
+        },
         Ok(Said::NoOrder(found)) => {
             if is_no(answer) {
                 Searched::NoOrder(found)

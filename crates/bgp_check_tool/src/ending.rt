@@ -26,9 +26,8 @@ ghost use Rattle.bgp_check_tool.specs.About.{IsNoOf, judged_value};
 ghost use Rattle.bgp_check_tool.specs.Another.{IsNo, IsNoYes, IsYes, number_in};
 ghost use Rattle.bgp_check_tool.specs.Elsewhere.{IsOther, in_made, no_count, octets_if};
 ghost use Rattle.bgp_check_tool.specs.Judging.{AreOptionsTo};
-ghost use Rattle.bgp_check_tool.specs.Late.{IsLate};
 ghost use Rattle.bgp_check_tool.specs.Made.{IsMade};
-ghost use Rattle.bgp_check_tool.specs.Orders.{IsKnown, IsUnexplained, IsUnfinished};
+ghost use Rattle.bgp_check_tool.specs.Orders.{AreKnown, IsKnown, IsUnexplained, IsUnfinished};
 ghost use Rattle.bgp_check_tool.specs.Place.{second_at};
 ghost use Rattle.bgp_check_tool.specs.Told.{HasCause, IsTold, peer_end, place_of, told_value};
 ghost use Rattle.bgp_watch.specs.Front.{front_value};
@@ -38,7 +37,7 @@ use crate::another::{AnotherOrder, Order, Searched, search_orders};
 use crate::elsewhere::{count_in, in_made, no_count, no_place, other_deed};
 use crate::instead::instead_of;
 use crate::judging::{options_for, options_to};
-use crate::late::{Late, late_of};
+use crate::late::{Late, Later, late_of};
 use crate::making::Made;
 use crate::options::CheckOptions;
 use crate::orders::{NoOrder, TooLong, Under};
@@ -104,6 +103,8 @@ pub(crate) struct Told<'a, A: Allocator> {
     pub(crate) within: u16,
     /// What a no or an unfinished becomes, where it may be handled as late as it can be said.
     pub(crate) late: Option<Late>,
+    /// Whether memory is refused for the search over all orders by which that is known.
+    pub(crate) lacks_memory_later: bool,
     /// How far the session came before its end.
     pub(crate) reached: Reached<A>,
     /// Why the verdict is a no or unfinished, where it is.
@@ -145,7 +146,7 @@ struct Beside<'a, A: Allocator> {
     found: Option<NoOrder<'a>>,
     in_made: Option<Place>,
     other: Option<Vec<u8, A>>,
-    late: Option<Late>,
+    later: Later,
     asked_at: Option<u64>,
     judge: Option<JudgeOptions>,
 }
@@ -159,7 +160,8 @@ impl<'a, A: Allocator + Copy> Beside<'a, A> {
         ensures found { result.found ≡ None }
         ensures in_made { result.in_made ≡ None }
         ensures other { octets_if result.other ≡ None }
-        ensures late { result.late ≡ None }
+        ensures late { result.later.late ≡ None }
+        ensures lacks_later { result.later.lacks_memory ≡ false }
         ensures asked_at { result.asked_at ≡ None }
         ensures judge { result.judge ≡ None }
     {
@@ -170,7 +172,7 @@ impl<'a, A: Allocator + Copy> Beside<'a, A> {
             found: None,
             in_made: None,
             other: None,
-            late: None,
+            later: Later::unasked(),
             asked_at: None,
             judge: None,
         }
@@ -178,14 +180,14 @@ impl<'a, A: Allocator + Copy> Beside<'a, A> {
 
     /// Beside what is unfinished over all orders, with where the no of the made one stands, after
     /// how many records that is, and what the answer becomes.
-    fn of_all(in_made: Option<Place>, asked_at: Option<u64>, late: Option<Late>) -> Beside<'a, A>
+    fn of_all(in_made: Option<Place>, asked_at: Option<u64>, later: Later) -> Beside<'a, A>
         ensures order { result.order ≡ OfAll }
         ensures over_all { result.over_all ≡ true }
         ensures lacks_memory { result.lacks_memory ≡ false }
         ensures found { result.found ≡ None }
         ensures in_made { result.in_made ≡ in_made }
         ensures other { octets_if result.other ≡ None }
-        ensures late { result.late ≡ late }
+        ensures later { result.later ≡ later }
         ensures asked_at { result.asked_at ≡ asked_at }
         ensures judge { result.judge ≡ None }
     {
@@ -196,22 +198,22 @@ impl<'a, A: Allocator + Copy> Beside<'a, A> {
             found: None,
             in_made,
             other: None,
-            late,
+            later,
             asked_at,
             judge: None,
         }
     }
 
     /// Beside this answer on the made order, and whether it is known to be unfinished over all, or
-    /// memory is refused for that search. It is known to be too long under these configurations.
-    fn of_made<T: Tracker<A>>(
+    /// memory is refused for that search; and what the answer becomes.
+    fn of_made(
         alloc: A,
         viewed: &Viewed<'_>,
         made: &Made<'_, A>,
         answer: &Answer<A>,
         over_all: bool,
         lacks_memory: bool,
-        known: TooLong,
+        later: Later,
     ) -> Result<Beside<'a, A>, AllocError>
         requires received { IsCovered viewed.now.connection.received }
         requires sent { IsCovered viewed.now.connection.sent }
@@ -223,8 +225,7 @@ impl<'a, A: Allocator + Copy> Beside<'a, A> {
         ensures found { IfOk result (λ beside. beside.found ≡ None) }
         ensures in_made { IfOk result (λ beside. beside.in_made ≡ None) }
         ensures other { IfOk result (λ beside. octets_if beside.other ≡ None) }
-        ensures late { IfOk result (λ beside. IsClocked viewed.now.connection → IsLate
-            viewed.now.session viewed.now.connection (answer_value answer.now) beside.late) }
+        ensures later { IfOk result (λ beside. beside.later ≡ later) }
         ensures asked_at { IfOk result (λ beside.
             beside.asked_at ≡ no_count (answer_value answer.now)) }
         ensures judge { IfOk result (λ beside. IsClocked viewed.now.connection
@@ -242,21 +243,21 @@ impl<'a, A: Allocator + Copy> Beside<'a, A> {
             found: None,
             in_made: None,
             other: None,
-            late: late_of::<A, T>(alloc, viewed, answer, known)?,
+            later,
             asked_at: no_count(answer),
             judge: options_to(alloc, viewed, made, answer)?,
         })
     }
 
-    /// Beside this answer on the made order, where no order explains a sent message, and the reason
-    /// is about that verdict.
-    fn of_no_order<T: Tracker<A>>(
+    /// Beside an answer on the made order, where no order explains a sent message, and the reason is
+    /// about that verdict; and what the answer becomes.
+    fn of_no_order(
         alloc: A,
         viewed: &Viewed<'_>,
         made: &Made<'_, A>,
-        answer: &Answer<A>,
         about: &Judged<A>,
         found: NoOrder<'a>,
+        later: Later,
     ) -> Result<Beside<'a, A>, AllocError>
         requires received { IsCovered viewed.now.connection.received }
         requires sent { IsCovered viewed.now.connection.sent }
@@ -272,8 +273,7 @@ impl<'a, A: Allocator + Copy> Beside<'a, A> {
             made.now.framings.sent.limit (peer_end viewed.now.session viewed.now.connection)
             (records_of made.now.recording.entries.items) (Some found.entry) beside.in_made
             (octets_if beside.other)) }
-        ensures late { IfOk result (λ beside. IsClocked viewed.now.connection → IsLate
-            viewed.now.session viewed.now.connection (answer_value answer.now) beside.late) }
+        ensures later { IfOk result (λ beside. beside.later ≡ later) }
         ensures asked_at { IfOk result (λ beside.
             beside.asked_at ≡ no_count (judged_value about.now)) }
         ensures judge { IfOk result (λ beside. IsClocked viewed.now.connection
@@ -294,7 +294,7 @@ impl<'a, A: Allocator + Copy> Beside<'a, A> {
             found: Some(found),
             in_made,
             other,
-            late: late_of::<A, T>(alloc, viewed, answer, TooLong::unknown())?,
+            later,
             asked_at: count_in(&about.verdict),
             judge: options_for(alloc, viewed, made, about)?,
         })
@@ -402,6 +402,7 @@ fn told_of<'a, A: Allocator + Copy>(
     ensures reason { (deed_text result.reason ≡ deed_text reason)
         × (lines_text result.reason ≡ lines_text reason) }
     ensures asked_at { result.asked_at ≡ beside.entry.asked_at }
+    ensures lacks_later { result.lacks_memory_later ≡ beside.entry.later.lacks_memory }
     ensures unshown { (result.received ≡ recording.now.received)
         × (result.sent ≡ recording.now.sent) }
     ensures over_all { (result.over_all ≡ beside.entry.over_all)
@@ -409,7 +410,7 @@ fn told_of<'a, A: Allocator + Copy>(
     ensures beside { (result.order ≡ beside.entry.order) × (result.found ≡ beside.entry.found)
         × (result.in_made ≡ beside.entry.in_made)
         × (octets_if result.other ≡ octets_if beside.entry.other)
-        × (result.late ≡ beside.entry.late) × (result.judge ≡ beside.entry.judge) }
+        × (result.late ≡ beside.entry.later.late) × (result.judge ≡ beside.entry.judge) }
 {
     Told {
         end: viewed.end,
@@ -425,7 +426,8 @@ fn told_of<'a, A: Allocator + Copy>(
         first: second_at(&recording.entries, 0),
         put_off: notes_on(recording).put_off,
         within: viewed.options.within,
-        late: beside.late,
+        late: beside.later.late,
+        lacks_memory_later: beside.later.lacks_memory,
         reached,
         reason,
         asked_at: beside.asked_at,
@@ -498,6 +500,8 @@ fn told_as_made<'a, A: Allocator + Copy, T: Tracker<A>>(
     ensures { IfOk result (λ told. IsClocked viewed.now.connection
         → IsMade viewed.now.options.within viewed.now.connection made.now.framings
         made.now.recording.entries.items made.now.recording.received made.now.recording.sent
+        → AreKnown viewed.now.session viewed.now.options.within made.now.framings
+        viewed.now.connection known
         → IsKnown viewed.now.session viewed.now.options.within made.now.framings
         viewed.now.connection over_all
         → HasCause viewed.now.session viewed.now.options.within made.now.framings
@@ -510,7 +514,8 @@ fn told_as_made<'a, A: Allocator + Copy, T: Tracker<A>>(
     let instead = OtherOrders::Unasked;
     let reached = reached_on::<A, T>(alloc, recording, &answer, before)?;
     let reason = reason_on::<A, T>(alloc, viewed, framings, recording, instead, &answer)?;
-    let beside = Beside::of_made::<T>(alloc, viewed, made, &answer, over_all, lacks_memory, known)?;
+    let later = late_of::<A, T>(alloc, viewed, &answer, known)?;
+    let beside = Beside::of_made(alloc, viewed, made, &answer, over_all, lacks_memory, later)?;
     Ok(told_of(viewed, recording, answer, reached, reason, beside))
 }
 
@@ -549,7 +554,8 @@ fn told_of_no_order<'a, A: Allocator + Copy, T: Tracker<A>>(
     let instead = instead_of(alloc, viewed, made, about, &found);
     let reached = reached_on::<A, T>(alloc, recording, &answer, before)?;
     let reason = reason_about::<A, T>(alloc, viewed, framings, recording, instead, about)?;
-    let beside = Beside::of_no_order::<T>(alloc, viewed, made, &answer, about, found)?;
+    let later = late_of::<A, T>(alloc, viewed, &answer, TooLong::unknown())?;
+    let beside = Beside::of_no_order(alloc, viewed, made, about, found, later)?;
     Ok(told_of(viewed, recording, answer, reached, reason, beside))
 }
 
@@ -619,8 +625,8 @@ fn told_over_all<'a, A: Allocator + Copy, T: Tracker<A>>(
     let asked_at = no_count(answer);
     let answer = unfinished(number_in(answer), its);
     let reached = reached_on::<A, T>(alloc, recording, &answer, None)?;
-    let late = late_of::<A, T>(alloc, viewed, &answer, TooLong::unknown())?;
-    let beside = Beside::of_all(in_made, asked_at, late);
+    let later = late_of::<A, T>(alloc, viewed, &answer, TooLong::unknown())?;
+    let beside = Beside::of_all(in_made, asked_at, later);
     Ok(told_of(viewed, recording, answer, reached, reason, beside))
 }
 

@@ -32,7 +32,8 @@ use std::alloc::Allocator;
 /// configuration has a run that explains what comes before, if the OPEN is any configuration's own.
 /// The note is there only if memory is refused for the search over all orders, or if that reaches
 /// more than [`MOST_NODES`](bgp_orders::MOST_NODES) nodes under one of the end's widest
-/// configurations. That is the clause `no`.
+/// configurations, two at most. Under the other it does, too, or no order has a run that shows just
+/// the end's records. That is the clause `no`.
 ///
 /// If they begin with `yes`, some run under such a configuration shows just the end's records in
 /// one of these orders. Each state in which such a run can end is listed, and no other. It is the

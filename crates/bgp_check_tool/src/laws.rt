@@ -64,7 +64,8 @@ pub fn a_verdict_is_over_all_configurations()
 
 /// States why a no or an unfinished is about one order, if it isn't known to hold over all: under
 /// one of the end's widest configurations the search over all orders reaches more nodes than it
-/// looks at, or memory is refused for that search, which the end's [mark](crate::EndMark) says.
+/// looks at, and under the other, if there is one, it does so too or no order is whole; or memory is
+/// refused for that search, which the end's [mark](crate::EndMark) says.
 pub fn one_order_is_told_for_a_cause()
     ensures { OneOrderHasACause }
 {}

@@ -1,7 +1,6 @@
 //! What is known of the ends whose answers are printed: where a no stands.
 
 ghost use Rattle.std.specs.Prelude.{◌≡◌, ◌∷◌, [], IsFalse};
-ghost use Rattle.bgp_check.specs.Answered.{answer_value};
 ghost use Rattle.bgp_check_tool.specs.Blocks.{block_of};
 ghost use Rattle.bgp_check_tool.specs.Marks.{AddsMarks, block_marks, end_mark, mark_by, no_at};
 ghost use Rattle.bgp_check_tool.specs.Told.{told_value};
@@ -46,6 +45,10 @@ pub struct EndMark {
     /// Whether memory was refused for the search over all orders. If not, a no or an unfinished is
     /// about one order alone only if that search was too long.
     pub lacks_memory: bool,
+    /// Whether memory was refused for the same search where a message may be handled as late as it
+    /// can be said. If not, a no or an unfinished that has no note on a late router stays what it is,
+    /// or that search was too long.
+    pub lacks_memory_later: bool,
 }
 
 /// What is known of both ends of a connection.
@@ -83,24 +86,16 @@ fn no_at<A: Allocator>(verdict: &Verdict<A>, found: &Option<NoOrder<'_>>) -> NoA
     }
 }
 
-/// Returns what is known of an end with this answer.
-fn mark_by<A: Allocator>(
-    answer: &Answer<A>,
-    order: Order,
-    lacks_memory: bool,
-    found: &Option<NoOrder<'_>>,
-    asked: Option<u64>,
-) -> Option<EndMark>
-    ensures { result ≡ mark_by (answer_value answer.now) order lacks_memory found.now asked }
+/// Returns what is known of an end of which this is told, with this verdict.
+fn mark_by<A: Allocator>(verdict: &Verdict<A>, told: &Told<'_, A>) -> EndMark
+    ensures { result ≡ mark_by (verdict_value verdict.now) (told_value told.now) }
 {
-    match answer {
-        Answer::NotJudged(_) => None,
-        Answer::Judged(judged) => Some(EndMark {
-            order,
-            no: no_at(&judged.verdict, found),
-            asked,
-            lacks_memory,
-        }),
+    EndMark {
+        order: told.order,
+        no: no_at(verdict, &told.found),
+        asked: told.asked_at,
+        lacks_memory: told.lacks_memory,
+        lacks_memory_later: told.lacks_memory_later,
     }
 }
 
@@ -109,15 +104,11 @@ fn end_mark<A: Allocator>(printing: Printing, told: &Told<'_, A>) -> Option<EndM
     ensures { result ≡ end_mark printing (told_value told.now) }
 {
     if is_left_out(printing.quiet, &told.answer) {
-        None
-    } else {
-        mark_by(
-            &told.answer,
-            told.order,
-            told.lacks_memory,
-            &told.found,
-            told.asked_at,
-        )
+        return None;
+    }
+    match &told.answer {
+        Answer::NotJudged(_) => None,
+        Answer::Judged(judged) => Some(mark_by(&judged.verdict, told)),
     }
 }
 

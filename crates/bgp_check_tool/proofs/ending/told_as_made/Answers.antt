@@ -4,19 +4,18 @@ use Rattle.bgp_check_lines.specs.Places.{shown_places}
 use Rattle.bgp_check.specs.Answered.{answer_value}
 use Rattle.bgp_check_lines.specs.Reached.{reached_value}
 use Rattle.bgp_check_lines.specs.JudgeOptions.{JudgeOptions}
-use Rattle.bgp_check_tool.specs.declared.late.Late.{Late}
+use Rattle.bgp_check_tool.specs.declared.late.Later.{Later}
 use Rattle.bgp_check_tool.specs.declared.orders.NoOrder.{NoOrder}
 use Rattle.bgp_check_tool.specs.Judging.{AreOptionsTo}
-use Rattle.bgp_check_tool.specs.Late.{IsLate}
 use Rattle.bgp_check_tool.specs.Orders.{IsKnown}
 use Rattle.bgp_check_tool.specs.Place.{second_at}
 use Rattle.bgp_check_tool.specs.Told.{peer_end, place_of, told_value}
 use Rattle.bgp_why.specs.declared.other_orders.OtherOrders.TheVariants.{Unasked}
-use Rattle.bgp_check_tool.proofs.TellingEnd.{about_so, cause_so, made_so, nothing_found, nothing_instead, nothing_other, reached_so, reason_so, told_so}
+use Rattle.bgp_check_tool.proofs.TellingEnd.{about_so, cause_so, late_so, made_so, nothing_found, nothing_instead, nothing_other, reached_so, reason_so, told_so}
 use Rattle.bgp_check_tool.proofs.ending.told_as_made.Goals as goal
 
 pub returns : goal.returns
-returns g c = λ clocked made known cause.
+returns g c = λ clocked made are_known known cause.
     let viewed = c.args.viewed.now in
     let options = viewed.options in
     let framings = c.args.made.now.framings in
@@ -46,7 +45,10 @@ returns g c = λ clocked made known cause.
     (is.place ∙ ap (λ (f : Option NoOrder). place_of answer f entries) (sym is.beside.1))
     (nothing_other viewed.session framings.sent.limit peer records told.found told.in_made told.other nothing (is.beside.3 ∙ beside.other))
     is.first is.put_off is.within
-    (subst (λ (l : Option Late). IsLate viewed.session viewed.connection answer l) (sym is.beside.4) (beside.late clocked))
+    (late_so viewed.session viewed.connection answer told.late _ told.lacks_memory_later _ (is.beside.4 ∙ ap (λ (l : Later). l.late) beside.later)
+    (is.lacks_later ∙ ap (λ (l : Later). l.lacks_memory) beside.later)
+    (c.in_ok-later.ensures clocked
+    (record { entries = entries; received_unshown = recording.received; sent_unshown = recording.sent; framings = framings; made = made; are = are_known })))
     (reached_so records answer told.reached (reached_value c.in_ok-reached.reached) is.reached c.in_ok-reached.ensures)
     Unasked
     (nothing_instead options.within framings viewed.connection entries answer told.found nothing)

@@ -49,7 +49,7 @@ returns g c = λ made_entries made_received made_sent made_answer made answers_m
     (is.place ∙ ap (λ (f : Option NoOrder). place_of answer f entries) (sym is.beside.1))
     (nothing_other viewed.session framings.sent.limit peer records told.found told.in_made told.other nothing (is.beside.3 ∙ beside.other))
     is.first is.put_off is.within
-    (yes_not_late viewed.session options.within framings viewed.connection answer told.late c.requires.yes (is.beside.4 ∙ beside.late))
+    (yes_not_late viewed.session options.within framings viewed.connection answer told.late told.lacks_memory_later c.requires.yes (is.beside.4 ∙ beside.late) (is.lacks_later ∙ beside.lacks_later))
     (reached_so records answer told.reached (reached_value c.in_ok-reached.reached) is.reached c.in_ok-reached.ensures)
     Unasked
     (nothing_instead options.within framings viewed.connection entries answer told.found nothing)

@@ -5,17 +5,17 @@ use Rattle.bgp_judge.specs.Verdict.{verdict_value}
 use Rattle.bgp_check.specs.Answered.{answer_value}
 use Rattle.bgp_check_lines.specs.Reached.{reached_value}
 use Rattle.bgp_check_lines.specs.JudgeOptions.{JudgeOptions}
-use Rattle.bgp_check_tool.specs.declared.late.Late.{Late}
+use Rattle.bgp_check_tool.specs.declared.late.Later.{Later}
 use Rattle.bgp_check_tool.specs.declared.orders.NoOrder.{NoOrder}
 use Rattle.bgp_check_tool.specs.About.{judged_value}
 use Rattle.bgp_check_tool.specs.Another.{number_in}
 use Rattle.bgp_check_tool.specs.Instead.{AreInstead}
 use Rattle.bgp_check_tool.specs.Judging.{AreOptionsTo}
-use Rattle.bgp_check_tool.specs.Late.{IsLate}
 use Rattle.bgp_check_tool.specs.Orders.{IsKnown}
 use Rattle.bgp_check_tool.specs.Place.{second_at}
 use Rattle.bgp_check_tool.specs.Told.{peer_end, place_of, told_value}
-use Rattle.bgp_check_tool.proofs.TellingEnd.{about_so, made_so, message_found, other_so, reached_so, reason_so, some_found, told_so}
+use Rattle.bgp_check_tool.proofs.TellingEnd.{about_so, late_so, made_so, message_found, other_so, reached_so, reason_so, some_found, told_so}
+use Rattle.bgp_check_tool.proofs.NoneLeft.{none_known}
 use Rattle.bgp_check_tool.proofs.NoUnder.{about_holds, about_no, about_number, about_widest}
 use Rattle.bgp_check_tool.proofs.ending.told_of_no_order.Goals as goal
 
@@ -65,7 +65,16 @@ returns g c = λ clocked made unexplained.
     (is.place ∙ ap (λ (f : Option NoOrder). place_of answer f entries) (sym is.beside.1))
     (other_so viewed.session framings.sent.limit peer records told.found (Some c.args.found) told.in_made _ told.other _ some is.beside.2 is.beside.3 beside.other)
     is.first is.put_off is.within
-    (subst (λ (l : Option Late). IsLate viewed.session viewed.connection answer l) (sym is.beside.4) (beside.late clocked))
+    (late_so viewed.session viewed.connection answer told.late _ told.lacks_memory_later _ (is.beside.4 ∙ ap (λ (l : Later). l.late) beside.later)
+    (is.lacks_later ∙ ap (λ (l : Later). l.lacks_memory) beside.later)
+    (c.in_ok-later.ensures clocked (record {
+      entries = entries;
+      received_unshown = recording.received;
+      sent_unshown = recording.sent;
+      framings = framings;
+      made = made;
+      are = none_known options.within framings viewed.connection viewed.session c.unknown.result c.unknown.ensures.wanting c.unknown.ensures.another;
+    })))
     (reached_so records answer told.reached (reached_value c.in_ok-reached.reached) is.reached c.in_ok-reached.ensures)
     c.instead_of-instead.result
     (subst (λ (f : Option NoOrder). AreInstead options.within framings viewed.connection entries about f c.instead_of-instead.result) (sym some) (c.instead_of-instead.ensures clocked))

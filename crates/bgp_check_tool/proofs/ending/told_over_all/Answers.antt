@@ -5,16 +5,16 @@ use Rattle.bgp_judge.specs.Verdict.{Unfinished}
 use Rattle.bgp_check_lines.specs.Places.{shown_places}
 use Rattle.bgp_check.specs.Answered.{JudgedAs, answer_value}
 use Rattle.bgp_check_lines.specs.Reached.{reached_value}
-use Rattle.bgp_check_tool.specs.declared.late.Late.{Late}
+use Rattle.bgp_check_tool.specs.declared.late.Later.{Later}
 use Rattle.bgp_check_tool.specs.declared.orders.NoOrder.{NoOrder}
 use Rattle.bgp_check_tool.specs.Another.{number_in}
 use Rattle.bgp_check_tool.specs.Elsewhere.{no_place}
-use Rattle.bgp_check_tool.specs.Late.{IsLate}
 use Rattle.bgp_check_tool.specs.Orders.{IsKnown}
 use Rattle.bgp_check_tool.specs.Place.{second_at}
 use Rattle.bgp_check_tool.specs.Told.{peer_end, place_of, told_value}
 use Rattle.bgp_why.specs.declared.other_orders.OtherOrders.TheVariants.{Unasked}
-use Rattle.bgp_check_tool.proofs.TellingEnd.{about_so, nothing_found, nothing_instead, nothing_other, over_all_orders, reached_so, reason_so, told_so}
+use Rattle.bgp_check_tool.proofs.NoneLeft.{none_known}
+use Rattle.bgp_check_tool.proofs.TellingEnd.{about_so, late_so, nothing_found, nothing_instead, nothing_other, over_all_orders, reached_so, reason_so, told_so}
 use Rattle.bgp_check_tool.proofs.ending.told_over_all.Goals as goal
 
 pub returns : goal.returns
@@ -56,7 +56,16 @@ returns g c = λ clocked made over.
     (is.place ∙ ap (λ (f : Option NoOrder). place_of unfinished f entries) (sym is.beside.1))
     (nothing_other viewed.session framings.sent.limit peer records told.found told.in_made told.other nothing (is.beside.3 ∙ beside.other))
     is.first is.put_off is.within
-    (subst (λ (l : Option Late). IsLate viewed.session viewed.connection unfinished l) (sym (is.beside.4 ∙ beside.late)) (c.in_ok-late.ensures clocked))
+    (late_so viewed.session viewed.connection unfinished told.late _ told.lacks_memory_later _ (is.beside.4 ∙ ap (λ (l : Later). l.late) beside.later)
+    (is.lacks_later ∙ ap (λ (l : Later). l.lacks_memory) beside.later)
+    (c.in_ok-later.ensures clocked (record {
+      entries = entries;
+      received_unshown = recording.received;
+      sent_unshown = recording.sent;
+      framings = framings;
+      made = made;
+      are = none_known options.within framings viewed.connection viewed.session c.unknown.result c.unknown.ensures.wanting c.unknown.ensures.another;
+    })))
     (reached_so records unfinished told.reached (reached_value c.in_ok-reached.reached) is.reached c.in_ok-reached.ensures)
     Unasked
     (nothing_instead options.within framings viewed.connection entries answer told.found nothing)
