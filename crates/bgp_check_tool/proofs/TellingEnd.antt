@@ -166,13 +166,6 @@ yes_not_asked (JudgedAs number peer under (Yes ends)) asked_at it none = none
 yes_not_asked (JudgedAs number peer under (No count)) asked_at it none = absurd it
 yes_not_asked (JudgedAs number peer under Unfinished) asked_at it none = absurd it
 
--- the reason of a yes is about no no
-pub yes_not_asked : (answer : AnswerValue) (asked_at : Option ℕ) → IsYes answer → asked_at ≡ None → asked_at ≡ no_count answer
-yes_not_asked (Unjudged why) asked_at it none = absurd it
-yes_not_asked (JudgedAs number peer under (Yes ends)) asked_at it none = none
-yes_not_asked (JudgedAs number peer under (No count)) asked_at it none = absurd it
-yes_not_asked (JudgedAs number peer under Unfinished) asked_at it none = absurd it
-
 -- what is said of another message is of what is told, and so is a reason
 module _ (session : Session) (sent : Limit) (peer : PeerEnd) (records : List ShownRecord) where
   pub other_so : (found found' : Option NoOrder) (its its' : Option Place) (text text' : Option (List ℕ)) → found ≡ found' → its ≡ its' → text ≡ text'
