@@ -4,5 +4,6 @@ mod Yeses
 mod Patience
 mod Moved
 mod Known
+mod Made
 mod Printed
 mod Checked

@@ -77,7 +77,7 @@ module _ (config : Config) (wanted : Import) (packets : List Recorded) (segments
   SaysNothing named text status remarks =
       IsRefused named text status remarks ⊎ IsOfOneOrder text status
 
--- ---- the law
+-- ---- the laws
 
 -- Of one connection, with one configuration and one patience, two prints that say something of all
 -- orders say the same, and so it is.
@@ -93,3 +93,14 @@ PrintsOneAnswer =
     × Prints answer text status × Prints answer printed code)
     ⊎ SaysNothing config wanted packets segments number named text status remarks
     ⊎ SaysNothing config wanted packets segments number called printed code others
+
+-- And two that are about the order that is made have the same verdict on it.
+abbrev pub PrintsOneMadeVerdict : Type 0
+PrintsOneMadeVerdict =
+    (config : Config) (wanted : Import) (packets : List Recorded) (segments : List Segment)
+    (number : Option ℕ) (text printed : List ℕ) (status code : ℕ)
+    → AreTaken wanted.selection 0 packets segments
+    → IsOfOneOrder config wanted packets segments number text status
+    → IsOfOneOrder config wanted packets segments number printed code
+    → (verdict : VerdictValue) × BeginsWith (value_text verdict) (value_status verdict) text status
+    × BeginsWith (value_text verdict) (value_status verdict) printed code

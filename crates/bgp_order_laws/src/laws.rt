@@ -2,9 +2,10 @@
 
 ghost use Rattle.bgp_order_laws.specs.AllEnds.{PrintedYesListsEveryEnd};
 ghost use Rattle.bgp_order_laws.specs.Checked.{CheckedYesListsEveryEnd};
-ghost use Rattle.bgp_order_laws.specs.OneAnswer.{PrintsOneAnswer};
+ghost use Rattle.bgp_order_laws.specs.OneAnswer.{PrintsOneAnswer, PrintsOneMadeVerdict};
 ghost use Rattle.bgp_order_laws.specs.Patience.{LessPatienceKeepsANo, MorePatienceKeepsAYes};
 
+use bgp_import::recordings_are_made_once;
 use bgp_judge::records_have_just_one_verdict;
 use bgp_orders::{no_order_explains_a_no, one_verdict_over_all_ways, runs_of_entries_are_whole};
 use bgp_way_ends::{a_yes_lists_all_ends, two_starts_are_enough, whole_ways_end_in_one_state};
@@ -29,13 +30,16 @@ pub fn a_printed_yes_lists_every_end()
 /// had, never say two different things of all orders that the packets allow. Both say `yes` with
 /// the same ends, or `no at packet` of the same packet, or `unfinished`, and so it is. Or one of
 /// them says nothing of all orders: the connection is refused, as it is if memory is; or the search
-/// reaches too many nodes, and the print is about the made order alone.
+/// reaches too many nodes, and the print is about the made order alone. Two such prints have the
+/// same verdict on that order.
 pub fn a_printed_verdict_is_the_only_one()
-    ensures { PrintsOneAnswer }
+    ensures all { PrintsOneAnswer }
+    ensures made { PrintsOneMadeVerdict }
 {
     a_yes_lists_all_ends();
     no_order_explains_a_no();
     one_verdict_over_all_ways();
+    recordings_are_made_once();
     records_have_just_one_verdict();
     runs_of_entries_are_whole();
     two_starts_are_enough();
