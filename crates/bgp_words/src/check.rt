@@ -17,35 +17,36 @@ use crate::words::Command;
 use clap::ArgMatches;
 use std::alloc::{AllocError, Global};
 
-/// What help tells after the words of `check`: what it prints, and the statuses.
+/// What help says after the words of `check`: what it prints, and the statuses.
 const CHECKED: &str = "\
-check says of both ends of each session in a file whether they kept to the standard, without a
-setting. FILE is a recording, a packet capture as tcpdump -w writes it (pcap or pcapng), or a
-capture of MRT records. What is configured is read off the OPEN that an end sent; what an OPEN
-doesn't say is left free.
+check says for both ends of each session in FILE whether they kept to the standard. It needs no
+settings: it reads them off the OPEN that each end sent, and leaves free what an OPEN doesn't say.
+FILE is a pcap file, as tcpdump -w writes it (pcap or pcapng), or an MRT file.
 
-For each connection at --port in a recording:
+For each connection at --port in a pcap file:
   connection 1: 192.0.2.2:40000 (AS 65002) to 192.0.2.1:179 (AS 65001) at 2017-07-14 02:40:00 ..
                         as bgp list prints it, with a line on how it ended; its two ends follow,
                         first that which opened it
   yes: 192.0.2.2:40000 (AS 65002): Established, routes from its peer: 2
-                        all is allowed; the AS number of its OPEN, and the state in which it may be.
-                        The line says if its peer has to have another AS number than its OPEN says
+                        the standard allows all that it did; the AS number of its OPEN, and the
+                        state in which it may be. The line says if its peer has to have another AS
+                        number than the peer's OPEN says
   no at packet 8, 2017-07-14 02:40:02.133606 UTC: 192.0.2.2:40000 (AS 65002) sent UPDATE to ..
-                        no configuration that its OPEN allows explains what it did, in no order that
-                        the packets allow within --within, or in one, as a note says then. The line
-                        goes on with what is wrong
+                        no configuration that its OPEN allows explains what it did, in any order
+                        that the packets allow within --within; if only one order was tried, a note
+                        says so. The line goes on with what is wrong
   unfinished after packet 9, 2017-07-14 02:40:02.133606 UTC: 192.0.2.2:40000 (AS 65002) has not ..
-                        it still owes something, in one order; or in all, as a note says then
+                        it still owes something, in each such order; if only one order was tried, a
+                        note says so
   not judged: 192.0.2.1:179 (AS unknown): the file has no message that it sent
                         why nothing can be said of it
-for each session in a capture:
+for each session in an MRT file:
   session: 192.0.2.1 with peer 192.0.2.2, 2017-07-14 02:40:00 to 02:41:00 UTC, records 9: ..
                         as bgp list prints it; the answers on its local end follow, one for each
                         part of its records that begins with a change from Idle:
   yes: 192.0.2.1 (AS 65001, records 1 to 9): Established, routes from its peer: 1
-                        or another as above, with a record for a packet; which records of the
-                        session it is about, if there are several parts
+                        or another answer as above, with a record in place of a packet. If there are
+                        several parts, the line says which records of the session it is about
 and last:
   ends 2: 1 yes, 0 no, 0 unfinished, 1 not judged; refused 0
 
@@ -53,21 +54,21 @@ After a no and an unfinished the reason follows, indented, as judge --explain pr
 sent, the state, what was received last, and all that could have come instead. With --settings each
 end has a line
   repeat: bgp judge --local-as 65001 --peer-as 65002 --local-id 192.0.2.1 .. FILE
-with options for which judge says the same of FILE, if there are such. They are the most permissive
+with options for which judge gives the same answer, if there are some. They are the most permissive
 configuration that the OPEN allows, and not the router's own.
 
-With -q only the ends that are a no or unfinished and what is refused are printed, each under the
-line of its connection or session. If nothing of that is left, nothing is printed, unless the file
-has no session at all. The exit status says the same as without.
+With -q check prints only what is a no, unfinished or refused, each under the line of its connection
+or session. If there is nothing of that, it prints nothing, unless the file has no session at all.
+The exit status is the same as without -q.
 
-check --json prints the same as JSON objects, one a line: of a connection or a session, of the answer
-on each end and each thing that is said beside it, and last of the counts.
+check --json prints the same as JSON objects, one a line: for each connection or session, for the
+answer on each end and each thing that is said beside it, and last for the counts.
 
-check --html prints the same with --routes and --settings as a report for a browser: one file of HTML
+check --html prints the same with --routes and --settings as a report for a browser: one HTML file
 that runs no script and loads nothing.
 
-ROUTE-REFRESH messages that their receiver's OPEN offers to read are passed over, and a note counts
-them. If a connection, a session or the file can't be read, a line says so, as those of bgp list do.
+ROUTE-REFRESH messages that their receiver's OPEN offers to read are left out, and a note counts
+them. If a connection, a session or the file can't be read, a line says so, as in bgp list.
 
 Exit status, the first of 5, 4, 1, 3, 2, 0 for which there is something:
   0   a yes; or help was asked for

@@ -25,9 +25,9 @@ use std::alloc::{AllocError, Global};
 /// What help says after the words of `decode`: the statuses, and the lines with an example each.
 const LINES: &str = "\
 Exit status:
-  0   all octets were whole messages, or the capture was read to its end; or help was asked for
+  0   all octets were whole messages, or the file was read to its end; or help was asked for
   2   the stream ends inside a message
-  3   the stream stops being BGP, or the capture or the recording is refused
+  3   the stream stops being BGP, or the MRT or pcap file is refused
   4   memory was refused
   5   a file can't be opened or read, or output can't be written
   64  the command line is none that the program knows
@@ -42,7 +42,7 @@ decode prints one line a message:
   update malformed      an UPDATE in which a length, a prefix or the last attribute doesn't fit
   notification 6/2 -    error code, subcode, data in hexadecimal
   keepalive
-and last, where the stream doesn't end with a message:
+and last, if the stream doesn't end with a message:
   rest 10               the stream ends 10 octets into a message
   fault at 19 1/2       the header at octet 19 is wrong: 1/1 its marker, 1/2 its length,
                         1/3 its type
@@ -60,7 +60,7 @@ decode --names prints the same in words, with bars between the parts of a line:
 What doesn't have its form is in hexadecimal after the word octets, what has no name after its
 number. With --names and with --json, AS numbers have four octets unless an OPEN before them lacks
 capability 65. A stream has one direction, so it shows only one side's OPEN: give --as2 if that of
-the other side lacks the capability. Do the same if a capture lacks that OPEN.
+the other side lacks the capability. Do the same if an MRT file lacks that OPEN.
 decode --json prints each line as a JSON object, whose type says which line it is:
   {\"type\":\"keepalive\",\"at\":89}
                         at: the octet of the stream where the message begins
@@ -78,18 +78,18 @@ decode --mrt prints one line a record of the session:
 and last, where it stops:
   capture refused: 1 Truncated at 36
                         the reason's number and name, and the offset of the record
-FILE of decode --mrt may be a recording, a packet capture as tcpdump -w writes it (pcap or pcapng):
-then the lines are those of the capture that bgp import makes of it, or
+FILE of decode --mrt may also be a pcap file, as tcpdump -w writes it (pcap or pcapng): then the
+lines are those of the MRT file that bgp import makes of it, or
   recording refused: 14 Missing at packet 7 received octet 49
                         the reason's number and name, the packet's number from 1, and the octet's
                         place in the stream from 0
-decode --mrt --names prints the records in words, and of a recording the packets that show them:
+decode --mrt --names prints the records in words, and for a pcap file the packets that show them:
   @1500000000 sent notification 6/2 Cease, Administrative Shutdown: \"bye\"
   @1500000000 packet 16 change Established to Idle
   @1500000000 received update announced 10.3.0.0/16#1 | origin IGP | path 65002 | via 192.0.2.2
-                        after # the path identifier of a prefix, where both OPENs offer them
-With --skip-refresh a ROUTE-REFRESH that is whole has no line; standard error says how many were
-passed over. A dash stands for nothing.
+                        after # the path identifier of a prefix, if both OPENs offer them
+With --skip-refresh whole ROUTE-REFRESH messages have no line; standard error says how many there
+are. A dash stands for nothing.
 
 The manual is docs/bgp.1.md, at the top of the repository.";
 
@@ -125,7 +125,7 @@ pub(crate) fn decode_words<'a>(alloc: Global) -> Result<clap::Command<'a>, Alloc
     let decode = new_command(
         alloc,
         "decode",
-        "Prints the BGP messages of a raw stream or of a capture, one a line",
+        "Prints the BGP messages of a raw stream, an MRT file or a pcap file, one a line",
         LINES,
     );
     let decode = with_words(alloc, decode, &WORDS)?;

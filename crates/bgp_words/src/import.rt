@@ -21,15 +21,15 @@ use std::alloc::{AllocError, Global};
 /// What help says after the words of `import`: what it does, what it says, an example and the
 /// statuses.
 const IMPORTED: &str = "\
-import makes a capture of a recording. FILE is a packet capture, as tcpdump -w writes it (pcap or
-pcapng); the session is what passed between --local and --peer at --port. OUT becomes the capture of
-one of its connections: MRT records, in one order in which the local system may have worked. No
-message stands before its packet came, and none waits longer than --within seconds. Where the
-recording is refused, nothing is written.
+import makes an MRT file of one connection in a pcap file. FILE is a pcap file, as tcpdump -w writes
+it (pcap or pcapng); the connection is one between --local and --peer at --port. OUT becomes the MRT
+file, with the messages in one order in which the local system may have handled them. No message
+stands before its packet came, and none waits longer than --within seconds. If the connection is
+refused, nothing is written.
 
-On standard error it says what isn't in the capture:
+On standard error it says what isn't in the MRT file:
   bgp: recording refused: 14 Missing at packet 7 received octet 49
-                        no capture can be made: the reason's number and name, the packet's number
+                        no MRT file can be made: the reason's number and name, the packet's number
                         from 1, and the octet's place in the stream from 0
   bgp: received ROUTE-REFRESH messages passed over: 3
                         with --skip-refresh: so many are in no record
@@ -40,14 +40,14 @@ On standard error it says what isn't in the capture:
   bgp: received messages put off: 3
                         how many stand after a message that was sent when they had come
 
-Example: make the capture of the second connection of a session.
+Example: make an MRT file of the second connection between two addresses.
   bgp import --local 192.0.2.1 --peer 192.0.2.2 --connection 2 session.pcap session.mrt
 
 Exit status:
-  0   the capture is written; or help was asked for
-  3   the recording is refused
+  0   the MRT file is written; or help was asked for
+  3   the pcap file or the connection is refused
   4   memory was refused
-  5   a file can't be opened or read, or the capture can't be written
+  5   a file can't be opened or read, or the MRT file can't be written
   64  the command line is none that the program knows
 
 The manual is docs/bgp.1.md, at the top of the repository.";
@@ -55,7 +55,7 @@ The manual is docs/bgp.1.md, at the top of the repository.";
 /// The words after `import`, but those that are for recordings alone.
 static WORDS: [Word<'static>; 5] = [
     READ,
-    Word::File("OUT", "The capture to write; - is standard output"),
+    Word::File("OUT", "The MRT file to write; - is standard output"),
     Word::Required("local", "The local system's address"),
     Word::Required("peer", "The peer's address"),
     Word::Flag(
@@ -72,7 +72,7 @@ pub(crate) fn import_words<'a>(alloc: Global) -> Result<clap::Command<'a>, Alloc
     let import = new_command(
         alloc,
         "import",
-        "Makes a capture of a recording of packets",
+        "Makes an MRT file of a connection in a pcap file",
         IMPORTED,
     );
     let import = with_words(alloc, import, &WORDS)?;

@@ -27,9 +27,9 @@ const USAGE: &str = "bgp judge [OPTIONS] --local-as <N> --peer-as <N> --local-id
 /// refused, when to believe an answer, and the statuses.
 const VERDICTS: &str = "\
 judge says whether a router that keeps to the standard (RFC 4271 with RFC 7606, and the choices that
-docs/SESSION-MACHINE.md names) can have done what the capture shows. FILE is a capture of MRT
-records that the router at --local made, or a recording: a packet capture, as tcpdump -w writes it
-(pcap or pcapng), made at either end or between. Its first octets say which. The answer is one of:
+docs/SESSION-MACHINE.md names) can have done what FILE shows. FILE is an MRT file that the router at
+--local wrote, or a pcap file, as tcpdump -w writes it (pcap or pcapng), recorded at either end or
+between. Its first octets say which. The answer is one of:
   yes                   a router that keeps to the standard can have done this; each end is a state
                         in which it may now be, with the families that it ignores:
   end Established disabled -
@@ -39,28 +39,28 @@ records that the router at --local made, or a recording: a packet capture, as tc
   no at record 6        it can have done what the first 5 records show, and not the 6th
   unfinished            it can so far, but still owes something
   capture refused: 1 Truncated at 36
-                        the capture can't be judged: the reason's number and name, and the offset
-                        of the record; standard error says what helps
+                        the MRT file can't be judged: the reason's number and name, and the
+                        offset of the record; standard error says what helps
 
---offers names what its OPEN offers about routes, each word once, with a comma between each two:
+--offers names what the OPEN of the router at --local offers about routes, each word once, with
+commas between them:
   send-v4, send-v6, receive-v4, receive-v6
                         several paths to a prefix (ADD-PATH, RFC 7911), of a family and direction;
                         if one OPEN offers to send them and the other to receive them, # and the
                         path identifier follow each prefix
   next-hops             IPv6 next hops of IPv4 routes (RFC 8950), as in unnumbered sessions
-Without it the OPEN may offer what it likes, and nothing of it counts; standard error says if both
-OPENs settle something of it.
+Without --offers the OPEN may offer any of these, and none takes effect; standard error says if both
+OPENs agree on one.
 
 With --explain the reason follows a no and an unfinished, in lines of its own: the record, the state
-before it, the message received last, and every record that could have stood there, and no other.
+before it, the message received last, and exactly the records that could have stood there.
 
-judge --json prints the same as JSON objects, one a line: of a verdict, of an end, of a route, of a
-line of the reason, or of what is refused.
+judge --json prints the same as JSON objects, one a line: for a verdict, an end, a route, a line of
+the reason, or a refusal.
 
-With --skip-refresh a ROUTE-REFRESH that is whole is no record; standard error says how many were
-passed over.
+With --skip-refresh whole ROUTE-REFRESH messages are left out; standard error says how many.
 
-A capture is refused for one of these reasons:
+An MRT file is refused for one of these reasons:
   1 Truncated           it ends inside a record, or is compressed: zcat FILE.gz | bgp judge .. -
   2 TooLong             a record's body has more than 8192 octets, or than 65583 with --extended
   3 Body                a record lacks fields, or its addresses are of no known family
@@ -73,35 +73,37 @@ A capture is refused for one of these reasons:
   9 Device              a read failed; standard error says why
   10 Memory             memory was refused
 
-Of a recording each connection between --local and --peer at --port is judged, in one order in which
-the router may have worked, as bgp import makes it. If that isn't a yes, all orders are looked at:
-  no at packet 8        in no order that the packets allow within --within it can have sent a
-                        message that this packet shows
-  yes                   another order is one, as standard error says then
-  unfinished            some order explains all that it sent, and in none it has done all that it
+In a pcap file, each connection between --local and --peer at --port is judged. Packets don't show
+when the router read a message, so its messages are put into one order in which it may have handled
+them, as bgp import does. If that order isn't a yes, all orders that the packets allow are tried:
+  no at packet 8        in none of them can the router have sent a message that this packet shows,
+                        if it handles each message within --within seconds
+  yes                   another order is a yes, as standard error says then
+  unfinished            some order explains all that it sent, and in none has it done all that it
                         had to, as standard error says then
-If there are too many orders, or no memory, to try them all, the answer is about the one order. If
-there are several connections, and --connection names none, a line before each answer says which it
-is of, and the status is the first of 5, 4, 1, 3, 2, 0 that one of them has:
+If there are too many orders to try them all, the answer is about the first one, as standard error
+says then. If there are several connections, and --connection names none, a line before each answer
+names its connection, and the status is the first of 5, 4, 1, 3, 2, 0 that one of them has:
   connection 2 from 192.0.2.2 40001 to 192.0.2.1 179 at 1500000060
                         who opened it, to whom, and the second of its first packet
   recording refused: 14 Missing at packet 7 received octet 49
                         it can't be judged: the reason's number and name, the packet's number from
                         1, and the octet's place in the stream from 0
---port, --local-port, --connection and --within are for recordings alone.
+--port, --local-port, --connection and --within are for pcap files alone.
 
 Exit status:
   0   yes; or help was asked for
   1   no
   2   unfinished
-  3   the capture or the recording is refused
+  3   the file or a connection is refused
   4   memory was refused
   5   a file can't be opened or read, or output can't be written
   64  the command line is none that the program knows
 
-Check the capture before you believe an answer: it must hold the messages of both directions from
-the start of the session, in the order in which the router handled them; and the options must be the
-router's. On received messages alone neither yes nor no says anything of it.
+Check FILE and the options before you believe an answer. FILE must hold the messages of both
+directions from the start of the session, and an MRT file in the order in which the router handled
+them. The options must be the router's settings. With received messages alone, neither yes nor no
+says anything about the router.
 
 The manual is docs/bgp.1.md, at the top of the repository.";
 

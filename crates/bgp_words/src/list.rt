@@ -17,10 +17,9 @@ use std::alloc::{AllocError, Global};
 
 /// What help says after the words of `list`: what it prints, and the statuses.
 const LISTED: &str = "\
-list prints the connections at --port in a recording, or the sessions in a capture, for whoever
-doesn't know the addresses. FILE is a recording, a packet capture as tcpdump -w writes it (pcap or
-pcapng), or a capture of MRT records. A line of a recording is one of these, in the order of first
-packets:
+list prints the connections at --port in a pcap file, or the sessions in an MRT file, for whoever
+doesn't know the addresses. A pcap file is one that tcpdump -w writes (pcap or pcapng). For a pcap
+file each line is one of these, in the order of first packets:
   connection 1: 192.0.2.2:40000 (AS 65002) to 192.0.2.1:179 (AS 65001) at 2017-07-14 02:40:00 ..
                         its number between its two addresses, which --connection of judge, decode
                         and import takes; who opened it, from which port; to whom, at which port;
@@ -38,15 +37,15 @@ packets:
                         of these is listed
 and last, if the file can't be read on:
   refused at packet 9: 4 Block, a block's lengths do not agree, or a packet has no time
-A line of a capture, in the order of first records:
+For an MRT file, in the order of first records:
   session: 192.0.2.1 with peer 192.0.2.2, 2017-07-14 02:40:00 to 02:41:00 UTC, records 9: ..
                         the addresses, which --local and --peer of judge and decode take; the times
                         of its first and last record; how many messages and changes of state
 and last, if the file can't be read on:
   refused at octet 36: 1 Truncated, the file ends inside a record
                         the offset of the record, the reason's number and name, and the cause
-list --json prints the same as JSON objects, one a line: of a connection with its end, of a session,
-or of what is refused.
+list --json prints the same as JSON objects, one a line: for a connection with its end, a session,
+or a refusal.
 
 Exit status:
   0   the file was read to its end; or help was asked for
@@ -72,7 +71,7 @@ pub(crate) fn list_words<'a>(alloc: Global) -> Result<clap::Command<'a>, AllocEr
     let list = new_command(
         alloc,
         "list",
-        "Lists the connections in a recording, or the sessions in a capture",
+        "Lists the connections in a pcap file, or the sessions in an MRT file",
         LISTED,
     );
     with_words(alloc, list, &WORDS)

@@ -18,7 +18,7 @@ use std::alloc::{AllocError, Global};
 const PAIRED: &str = "\
 pair lets two ends speak with one another over TCP on 127.0.0.1, both in this program, and judges
 what each did. It has no options: the left end is AS 65001 at 192.0.2.1 and announces 10.1.0.0/16,
-the right end is AS 65002 at 192.0.2.2 and announces 10.2.0.0/16. FILE becomes the capture of the
+the right end is AS 65002 at 192.0.2.2 and announces 10.2.0.0/16. FILE becomes the MRT file of the
 left end, FILE.right that of the right end; both are read again and judged, and each verdict is
 printed as judge prints it:
   left yes
@@ -27,14 +27,14 @@ printed as judge prints it:
   right yes
   end Established disabled -
   route 10.1.0.0/16 via 192.0.2.1 path 65001 origin 0
-or, where the two don't come to a session:
+or, if the two don't come to a session:
   pair not established
 
 Exit status: the greater one of both verdicts'.
   0   yes; or help was asked for
   1   no, or the two don't come to a session
   2   unfinished
-  3   a capture is refused
+  3   an MRT file is refused
   4   memory was refused
   5   a file or the connection can't be opened, read or written, or output can't be written
   64  the command line is none that the program knows
@@ -44,7 +44,7 @@ The manual is docs/bgp.1.md, at the top of the repository.";
 /// The file of `pair`.
 const CAPTURE: Word<'static> = Word::File(
     "FILE",
-    "The left end's capture to write; - is a file of that name",
+    "The left end's MRT file to write; - is a file of that name",
 );
 
 /// What the words of `pair` may be.

@@ -19,14 +19,14 @@ use std::alloc::{AllocError, Global};
 pub(crate) const PORT: Word<'static> = Word::Default(
     "port",
     "179",
-    "The session's TCP port in a recording: 1 to 65535",
+    "The session's TCP port in a pcap file: 1 to 65535",
 );
 
 /// For how long a message of a recording may wait.
 pub(crate) const WITHIN: Word<'static> = Word::Default(
     "within",
     "10",
-    "Seconds a message of a recording may wait: 0 to 65535",
+    "Seconds a message in a pcap file may wait: 0 to 65535",
 );
 
 /// The words of a session that is read: four that are for recordings alone, and one that isn't.
@@ -34,11 +34,11 @@ static WORDS: [Word<'static>; 5] = [
     PORT,
     Word::Option(
         "local-port",
-        "The local system's port in a recording: only connections there",
+        "The local system's port in a pcap file: only connections there",
     ),
     Word::Option(
         "connection",
-        "The connection in a recording, by its number in bgp list",
+        "The connection in a pcap file, by its number in bgp list",
     ),
     WITHIN,
     Word::Flag(

@@ -32,7 +32,7 @@ bgp speak [OPTIONS] --local-as <N> --peer-as <N> --local-id <A> --local <A> --pe
 /// statuses.
 const SPOKEN: &str = "\
 speak is one end of a session over TCP on 127.0.0.1: it connects to a port where the peer listens,
-or listens at a port and takes the first connection. FILE becomes the capture of what it did, with
+or listens at a port and takes the first connection. FILE becomes an MRT file of what it did, with
 the addresses of --local and --peer; bgp judge --no-refresh judges it, by the same options up to
 --large-hold. A turn is one read of the connection, or a second in which nothing comes. After the
 last turn it ends the session with a Cease. While it speaks, standard error has a line for each
@@ -51,15 +51,18 @@ Example: connect to a peer of AS 65002 that listens at port 1179, and announce a
 
 Exit status:
   0   the talk went to its end, which doesn't say that there was a session: the peer may have
-      refused the connection, as the capture shows; or help was asked for
+      refused the connection, as the MRT file shows; or help was asked for
   4   memory was refused
-  5   the capture or the port can't be opened, or the capture or output can't be written
+  5   the MRT file or the port can't be opened, or the MRT file or output can't be written
   64  the command line is none that the program knows
 
 The manual is docs/bgp.1.md, at the top of the repository.";
 
 /// The file of `speak`.
-const CAPTURE: Word<'static> = Word::File("FILE", "The capture to write; - is a file of that name");
+const CAPTURE: Word<'static> = Word::File(
+    "FILE",
+    "The MRT file to write; - is a file of that name",
+);
 
 /// The words of `speak` that `judge` hasn't.
 static WORDS: [Word<'static>; 7] = [
@@ -99,7 +102,7 @@ pub(crate) fn speak_words<'a>(alloc: Global) -> Result<clap::Command<'a>, AllocE
     let speak = new_command(
         alloc,
         "speak",
-        "Speaks with a peer over TCP, and writes down the session as a capture",
+        "Speaks with a peer over TCP, and writes down the session as an MRT file",
         SPOKEN,
     )
     .override_usage(USAGE);

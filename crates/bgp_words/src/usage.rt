@@ -89,11 +89,38 @@ fn program_misfit<'a, S: AsStr>(
     let name = name.as_str();
     match command_named(program, name) {
         Some(command) => command_misfit(alloc, command, rest),
-        None => {
-            let near = near_command(alloc, program, name)?;
-            Ok(Misfit::UnknownCommand { word: name, near })
-        }
+        None if name == "help" => help_misfit(alloc, program, rest),
+        None => unknown_command(alloc, program, name),
     }
+}
+
+/// What is wrong with the words after `help`, which names a command.
+fn help_misfit<'a, S: AsStr>(
+    alloc: Global,
+    program: &Command<'a>,
+    words: &'a [S],
+) -> Result<Misfit<'a>, AllocError> {
+    let [name, rest @ ..] = words else {
+        return Ok(Misfit::NO_COMMAND);
+    };
+    let name = name.as_str();
+    match (command_named(program, name), rest) {
+        (Some(command), [word, ..]) => Ok(Misfit::ExtraWord {
+            word: word.as_str(),
+            command: command.get_name(),
+        }),
+        _ => unknown_command(alloc, program, name),
+    }
+}
+
+/// That a word is no command, and which one is most like it.
+fn unknown_command<'a>(
+    alloc: Global,
+    program: &Command<'a>,
+    word: &'a str,
+) -> Result<Misfit<'a>, AllocError> {
+    let near = near_command(alloc, program, word)?;
+    Ok(Misfit::UnknownCommand { word, near })
 }
 
 /// The name of a command that is most like a word, if one is like it.
@@ -149,10 +176,28 @@ fn option_name(word: &str) -> Option<(&str, bool)> {
     }
 }
 
+/// The letters in a word that is written as letters of options, with one dash.
+fn letters_of(word: &str) -> Option<&str> {
+    if word.starts_with("--") {
+        return None;
+    }
+    word.strip_prefix("-")
+}
+
 /// The option of this name.
 fn option_named<'c, 'a>(command: &'c Command<'a>, name: &str) -> Option<&'c Arg<'a>> {
     for arg in command.get_arguments() {
         if arg.get_long() == Some(name) {
+            return Some(arg);
+        }
+    }
+    None
+}
+
+/// The option of this letter.
+fn option_lettered<'c, 'a>(command: &'c Command<'a>, letter: char) -> Option<&'c Arg<'a>> {
+    for arg in command.get_arguments() {
+        if arg.get_short() == Some(letter) {
             return Some(arg);
         }
     }
@@ -164,7 +209,38 @@ fn is_flag(arg: &Arg<'_>) -> bool {
     matches!(arg.get_action(), ArgAction::SetTrue)
 }
 
-/// Whether an option is among these words.
+/// How often a letter stands in a word.
+fn count_in(word: &str, letter: char) -> usize {
+    let mut count = 0usize;
+    for other in word.chars() {
+        if other == letter {
+            count = count.saturating_add(1);
+        }
+    }
+    count
+}
+
+/// Whether this letter is among those of these words.
+fn has_letter<S: AsStr>(words: &[S], letter: char) -> bool {
+    for word in words {
+        if let Some(letters) = letters_of(word.as_str()) {
+            if count_in(letters, letter) > 0 {
+                return true;
+            }
+        }
+    }
+    false
+}
+
+/// Whether an option is among these words, by its name or by its letter.
+fn is_met<S: AsStr>(words: &[S], arg: &Arg<'_>, name: &str) -> bool {
+    match arg.get_short() {
+        Some(letter) => has_letter(words, letter) || is_given(words, name),
+        None => is_given(words, name),
+    }
+}
+
+/// Whether an option is among these words, by its name.
 fn is_given<S: AsStr>(words: &[S], name: &str) -> bool {
     for word in words {
         if let Some((other, _)) = option_name(word.as_str()) {
@@ -237,6 +313,31 @@ enum Met<'a> {
     Whole,
 }
 
+/// What a word is that is written as letters of options, after these words: each letter is that of a
+/// flag.
+fn letters_misfit<'a, S: AsStr>(command: &Command<'a>, word: &'a str, before: &'a [S]) -> Met<'a> {
+    let unknown = Misfit::UnknownOption {
+        word,
+        command: command.get_name(),
+        near: None,
+    };
+    let Some(letters) = letters_of(word) else {
+        return Met::Misfit(unknown);
+    };
+    for letter in letters.chars() {
+        let Some(arg) = option_lettered(command, letter) else {
+            return Met::Misfit(unknown);
+        };
+        let Some(name) = arg.get_long() else {
+            return Met::Misfit(unknown);
+        };
+        if count_in(letters, letter) > 1 || is_met(before, arg, name) {
+            return Met::Misfit(Misfit::Twice { name });
+        }
+    }
+    Met::Whole
+}
+
 /// What a word is that is written as an option, after these words.
 fn option_misfit<'a, S: AsStr>(
     alloc: Global,
@@ -245,12 +346,7 @@ fn option_misfit<'a, S: AsStr>(
     before: &'a [S],
 ) -> Result<Met<'a>, AllocError> {
     let Some((name, has_value)) = option_name(word) else {
-        let misfit = Misfit::UnknownOption {
-            word,
-            command: command.get_name(),
-            near: None,
-        };
-        return Ok(Met::Misfit(misfit));
+        return Ok(letters_misfit(command, word, before));
     };
     let Some(arg) = option_named(command, name) else {
         let near = near_option(alloc, command, name)?;
@@ -261,7 +357,7 @@ fn option_misfit<'a, S: AsStr>(
         };
         return Ok(Met::Misfit(misfit));
     };
-    if is_given(before, name) {
+    if is_met(before, arg, name) {
         return Ok(Met::Misfit(Misfit::Twice { name }));
     }
     if is_flag(arg) {

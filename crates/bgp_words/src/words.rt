@@ -125,11 +125,11 @@ pub enum Command<'a> {
 /// What help says after the commands: the statuses.
 const STATUSES: &str = "\
 Exit status:
-  0   all octets were whole messages, or the capture or the recording was read to its end, or the
-      verdict is yes, or speak went to its end; or help or the version was asked for
+  0   all octets were whole messages, or the file was read to its end, or the verdict is yes, or
+      speak went to its end; or help or the version was asked for
   1   the verdict is no, or the two of a pair don't come to a session
   2   the stream ends inside a message, or the verdict is unfinished
-  3   the stream stops being BGP, or the capture or the recording is refused
+  3   the stream stops being BGP, or the file or a connection is refused
   4   memory was refused
   5   a file or a port can't be opened, a file can't be read, or output can't be written
   64  the command line is none that the program knows
@@ -144,7 +144,7 @@ pub(crate) fn program<'a>(alloc: Global) -> Result<clap::Command<'a>, AllocError
     let program = new_command(
         alloc,
         "bgp",
-        "Reads BGP-4 messages, captures and recordings, judges sessions, and speaks in one",
+        "Reads BGP-4 messages, MRT files and pcap files, judges sessions, and speaks in one",
         STATUSES,
     )
     .version("0.4.0")
