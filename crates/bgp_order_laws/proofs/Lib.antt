@@ -1,0 +1,9 @@
+mod Lists
+mod Lines
+mod Yeses
+mod Patience
+mod Moved
+mod Known
+mod Made
+mod Printed
+mod Checked

@@ -1,0 +1,5 @@
+-- In reading order.
+pub mod AllEnds
+pub mod OneAnswer
+pub mod Patience
+pub mod Checked
