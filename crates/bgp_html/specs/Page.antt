@@ -124,18 +124,19 @@ about_text =
 -- and their words
 abbrev pub words_text : List ℕ
 words_text =
-    codes "The two routers of a connection are its ends, and each yes, no or "
-    ++ (codes "unfinished is about one end. A record is one message that the end sent or "
-    ++ (codes "received, or one change of its state. could come here: the standard "
-    ++ (codes "allows this in place of the record that the no names. or: it allows this, "
-    ++ (codes "too, and nothing but these. had to come here: the same, and the router "
-    ++ (codes "could receive no other message before it. could come next, had to come "
-    ++ (codes "next: the same after the last record. refused: it cannot be read, and is "
-    ++ (codes "not judged. open at the end of the file: no packet ended the connection. "
-    ++ (codes "A single - stands for nothing: no prefix, or no attribute. origin 0, 1 "
-    ++ (codes "and 2 are IGP, EGP and INCOMPLETE. A message that came is handled within "
-    ++ (codes "10 seconds, or within as many as --within says. The standard sets no such "
-    ++ codes "time; the 10 seconds are a choice of bgp."))))))))))
+    codes "In a pcap file the two routers of a connection are its ends, and each yes, "
+    ++ (codes "no or unfinished is about one end. In an MRT file each is about the local "
+    ++ (codes "system in one stretch of a session, and is counted as an end. A record is "
+    ++ (codes "one message that the end sent or received, or one change of its state. could "
+    ++ (codes "come here: the standard allows this in place of the record that the no "
+    ++ (codes "names. or: it allows this, too, and nothing but these. had to come here: the "
+    ++ (codes "same, and the router could receive no other message before it. could come "
+    ++ (codes "next, had to come next: the same after the last record. refused: it cannot "
+    ++ (codes "be read, and is not judged. open at the end of the file: nothing in it ended "
+    ++ (codes "the session. A single - stands for nothing: no prefix, or no attribute. "
+    ++ (codes "origin 0, 1 and 2 are IGP, EGP and INCOMPLETE. In a pcap file a message that "
+    ++ (codes "came is handled within 10 seconds, or within as many as --within says. The "
+    ++ codes "standard sets no such time; the 10 seconds are a choice of bgp.")))))))))))
 
 abbrev pub after_name : List ℕ
 after_name =
@@ -146,21 +147,20 @@ after_name =
 
 abbrev pub ladders_text : List ℕ
 ladders_text =
-    codes "Each end that is judged has a table here: its records, a row each, in the "
-    ++ (codes "order that bgp import makes, in which the router can have handled them. "
-    ++ (codes "An arrow points from the sender of a message to its receiver. Seconds are "
-    ++ (codes "counted from the first packet of the connection; a row without a time is "
-    ++ (codes "of the same packet as the row above it. came before: the packet came "
-    ++ (codes "before that of a row above it, and was handled after it. No packet shows "
-    ++ (codes "a change of state: it stands at the packet of the message beside it, or "
-    ++ (codes "of the end of the connection. The row of a no has a cross. Dashed rows "
-    ++ (codes "say what could have come in place of the record above them, or had to: "
-    ++ (codes "they are lines of the answer above. Dashed rows at the end of a table say "
-    ++ (codes "what is due next. The rows after that of a no are pale: they are not "
-    ++ (codes "judged. If the answer names a packet in the order of bgp import, the dashed "
-    ++ (codes "rows stand below its record: in this order that record is not allowed, in "
-    ++ (codes "another it may be; the message of the row with the cross is not allowed in "
-    ++ codes "any.")))))))))))))
+    codes "Each yes, no and unfinished above has a table here: the records of its end, "
+    ++ (codes "a row each, in the order that bgp import makes, in which the router can have "
+    ++ (codes "handled them. An arrow points from the sender of a message to its receiver. "
+    ++ (codes "Seconds are counted from the first packet of the connection; a row without a "
+    ++ (codes "time is of the same packet as the row above it. came before: the packet came "
+    ++ (codes "before that of a row above it, and was handled after it. No packet shows a "
+    ++ (codes "change of state: it stands at the packet of the message beside it, or of the "
+    ++ (codes "end of the connection. The row of a no has a cross. Dashed rows say what "
+    ++ (codes "could have come in place of the record above them, or had to: they are lines "
+    ++ (codes "of the answer above. Dashed rows at the end of a table say what could come "
+    ++ (codes "next, or has to. The rows after that of a no are pale: they are not judged. "
+    ++ (codes "If the answer names a packet in the order of bgp import, the dashed rows "
+    ++ (codes "stand below its record: in this order that record is not allowed, in another "
+    ++ codes "it may be; the message of the row with the cross is not allowed in any."))))))))))))
 
 abbrev pub ladders_start : List ℕ
 ladders_start =
@@ -171,17 +171,18 @@ ladders_start =
 
 abbrev pub stretches_text : List ℕ
 stretches_text =
-    codes "Each stretch that is judged has a table here: its records, a row each, in "
-    ++ (codes "the order of the file. A stretch is the records from one change that leaves "
-    ++ (codes "Idle to the next, whose row ends the table. The number of a record is that "
-    ++ (codes "in its session; a ROUTE-REFRESH that is passed over has no row. The right "
-    ++ (codes "column is the local system, which is judged, and the left one its peer. An "
-    ++ (codes "arrow points from the sender of a message to its receiver. Seconds are "
-    ++ (codes "counted from the first record of the session. The row of a no has a cross. "
-    ++ (codes "The dashed rows below it say what could have come in its place, or had to: "
-    ++ (codes "they are lines of the answer above. Dashed rows at the end of a table say "
-    ++ (codes "what is due next. The rows after that of a no are pale: they are not "
-    ++ codes "judged.")))))))))
+    codes "Each yes, no and unfinished above has a table here: the records of its "
+    ++ (codes "stretch, a row each, in the order of the file. A stretch is the records of a "
+    ++ (codes "session from one that leaves Idle on. If another stretch follows, the last "
+    ++ (codes "row is the change that begins that one: it is judged in both. The number of "
+    ++ (codes "a record is that in its session; a ROUTE-REFRESH that is passed over has no "
+    ++ (codes "row. The right column is the local system, which is judged, and the left one "
+    ++ (codes "its peer. An arrow points from the sender of a message to its receiver. "
+    ++ (codes "Seconds are counted from the first record of the session. The row of a no "
+    ++ (codes "has a cross. The dashed rows below it say what could have come in its place, "
+    ++ (codes "or had to: they are lines of the answer above. Dashed rows at the end of a "
+    ++ (codes "table say what could come next, or has to. The rows after that of a no are "
+    ++ codes "pale: they are not judged here."))))))))))
 
 abbrev pub stretches_start : List ℕ
 stretches_start =

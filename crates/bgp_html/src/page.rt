@@ -175,18 +175,19 @@ fn put_about<W: Sink>(lines: &mut Lines<'_, W>)
 fn put_words<W: Sink>(lines: &mut Lines<'_, W>)
     ensures { Writes lines.old lines.new words_text }
 {
-    lines.put(b"The two routers of a connection are its ends, and each yes, no or ");
-    lines.put(b"unfinished is about one end. A record is one message that the end sent or ");
-    lines.put(b"received, or one change of its state. could come here: the standard ");
-    lines.put(b"allows this in place of the record that the no names. or: it allows this, ");
-    lines.put(b"too, and nothing but these. had to come here: the same, and the router ");
-    lines.put(b"could receive no other message before it. could come next, had to come ");
-    lines.put(b"next: the same after the last record. refused: it cannot be read, and is ");
-    lines.put(b"not judged. open at the end of the file: no packet ended the connection. ");
-    lines.put(b"A single - stands for nothing: no prefix, or no attribute. origin 0, 1 ");
-    lines.put(b"and 2 are IGP, EGP and INCOMPLETE. A message that came is handled within ");
-    lines.put(b"10 seconds, or within as many as --within says. The standard sets no such ");
-    lines.put(b"time; the 10 seconds are a choice of bgp.");
+    lines.put(b"In a pcap file the two routers of a connection are its ends, and each yes, ");
+    lines.put(b"no or unfinished is about one end. In an MRT file each is about the local ");
+    lines.put(b"system in one stretch of a session, and is counted as an end. A record is ");
+    lines.put(b"one message that the end sent or received, or one change of its state. could ");
+    lines.put(b"come here: the standard allows this in place of the record that the no ");
+    lines.put(b"names. or: it allows this, too, and nothing but these. had to come here: the ");
+    lines.put(b"same, and the router could receive no other message before it. could come ");
+    lines.put(b"next, had to come next: the same after the last record. refused: it cannot ");
+    lines.put(b"be read, and is not judged. open at the end of the file: nothing in it ended ");
+    lines.put(b"the session. A single - stands for nothing: no prefix, or no attribute. ");
+    lines.put(b"origin 0, 1 and 2 are IGP, EGP and INCOMPLETE. In a pcap file a message that ");
+    lines.put(b"came is handled within 10 seconds, or within as many as --within says. The ");
+    lines.put(b"standard sets no such time; the 10 seconds are a choice of bgp.");
 }
 
 /// Puts what stands between the heading and the first connection.
@@ -204,21 +205,20 @@ pub(crate) fn put_after_name<W: Sink>(lines: &mut Lines<'_, W>)
 fn put_about_ladders<W: Sink>(lines: &mut Lines<'_, W>)
     ensures { Writes lines.old lines.new ladders_text }
 {
-    lines.put(b"Each end that is judged has a table here: its records, a row each, in the ");
-    lines.put(b"order that bgp import makes, in which the router can have handled them. ");
-    lines.put(b"An arrow points from the sender of a message to its receiver. Seconds are ");
-    lines.put(b"counted from the first packet of the connection; a row without a time is ");
-    lines.put(b"of the same packet as the row above it. came before: the packet came ");
-    lines.put(b"before that of a row above it, and was handled after it. No packet shows ");
-    lines.put(b"a change of state: it stands at the packet of the message beside it, or ");
-    lines.put(b"of the end of the connection. The row of a no has a cross. Dashed rows ");
-    lines.put(b"say what could have come in place of the record above them, or had to: ");
-    lines.put(b"they are lines of the answer above. Dashed rows at the end of a table say ");
-    lines.put(b"what is due next. The rows after that of a no are pale: they are not ");
-    lines.put(b"judged. If the answer names a packet in the order of bgp import, the dashed ");
-    lines.put(b"rows stand below its record: in this order that record is not allowed, in ");
-    lines.put(b"another it may be; the message of the row with the cross is not allowed in ");
-    lines.put(b"any.");
+    lines.put(b"Each yes, no and unfinished above has a table here: the records of its end, ");
+    lines.put(b"a row each, in the order that bgp import makes, in which the router can have ");
+    lines.put(b"handled them. An arrow points from the sender of a message to its receiver. ");
+    lines.put(b"Seconds are counted from the first packet of the connection; a row without a ");
+    lines.put(b"time is of the same packet as the row above it. came before: the packet came ");
+    lines.put(b"before that of a row above it, and was handled after it. No packet shows a ");
+    lines.put(b"change of state: it stands at the packet of the message beside it, or of the ");
+    lines.put(b"end of the connection. The row of a no has a cross. Dashed rows say what ");
+    lines.put(b"could have come in place of the record above them, or had to: they are lines ");
+    lines.put(b"of the answer above. Dashed rows at the end of a table say what could come ");
+    lines.put(b"next, or has to. The rows after that of a no are pale: they are not judged. ");
+    lines.put(b"If the answer names a packet in the order of bgp import, the dashed rows ");
+    lines.put(b"stand below its record: in this order that record is not allowed, in another ");
+    lines.put(b"it may be; the message of the row with the cross is not allowed in any.");
 }
 
 /// Puts the start of what stands after the text about a recording: a heading, and what the rows
@@ -235,17 +235,18 @@ pub(crate) fn put_ladders_start<W: Sink>(lines: &mut Lines<'_, W>)
 fn put_about_stretches<W: Sink>(lines: &mut Lines<'_, W>)
     ensures { Writes lines.old lines.new stretches_text }
 {
-    lines.put(b"Each stretch that is judged has a table here: its records, a row each, in ");
-    lines.put(b"the order of the file. A stretch is the records from one change that leaves ");
-    lines.put(b"Idle to the next, whose row ends the table. The number of a record is that ");
-    lines.put(b"in its session; a ROUTE-REFRESH that is passed over has no row. The right ");
-    lines.put(b"column is the local system, which is judged, and the left one its peer. An ");
-    lines.put(b"arrow points from the sender of a message to its receiver. Seconds are ");
-    lines.put(b"counted from the first record of the session. The row of a no has a cross. ");
-    lines.put(b"The dashed rows below it say what could have come in its place, or had to: ");
-    lines.put(b"they are lines of the answer above. Dashed rows at the end of a table say ");
-    lines.put(b"what is due next. The rows after that of a no are pale: they are not ");
-    lines.put(b"judged.");
+    lines.put(b"Each yes, no and unfinished above has a table here: the records of its ");
+    lines.put(b"stretch, a row each, in the order of the file. A stretch is the records of a ");
+    lines.put(b"session from one that leaves Idle on. If another stretch follows, the last ");
+    lines.put(b"row is the change that begins that one: it is judged in both. The number of ");
+    lines.put(b"a record is that in its session; a ROUTE-REFRESH that is passed over has no ");
+    lines.put(b"row. The right column is the local system, which is judged, and the left one ");
+    lines.put(b"its peer. An arrow points from the sender of a message to its receiver. ");
+    lines.put(b"Seconds are counted from the first record of the session. The row of a no ");
+    lines.put(b"has a cross. The dashed rows below it say what could have come in its place, ");
+    lines.put(b"or had to: they are lines of the answer above. Dashed rows at the end of a ");
+    lines.put(b"table say what could come next, or has to. The rows after that of a no are ");
+    lines.put(b"pale: they are not judged here.");
 }
 
 /// Puts the same start after the text about a capture.
