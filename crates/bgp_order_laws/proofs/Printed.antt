@@ -26,7 +26,7 @@ use Rattle.bgp_recording_tool.specs.Headline.{IsAsMade}
 use Rattle.bgp_recording_tool.specs.Told.{Told, Judged, NoOrder, InAnotherOrder, Refused, UnfinishedOverAll, told_status, told_text}
 use Rattle.bgp_recording_tool.specs.declared.remark.Remark.{Remark}
 use Rattle.bgp_recording_tool.proofs.FoundNothing.{made_verdict, no_nothing, unfinished_nothing}
-use Rattle.bgp_order_laws.specs.AllEnds.{PrintedYesListsEveryEnd, ends_told}
+use Rattle.bgp_order_laws.specs.AllEnds.{AreAllEnds, PrintedYesListsEveryEnd, ends_told}
 use Rattle.bgp_order_laws.specs.OneAnswer.{Answer, IsSo, NoAt, Prints, PrintsOneAnswer, SaysNothing, Unfinished, Yes}
 use Rattle.bgp_order_laws.specs.Patience.{AreNoes, LessPatienceKeepsANo, MorePatienceKeepsAYes, with_patience}
 use Rattle.bgp_order_laws.proofs.Known.{Known, NoneAt, by_no_order, is_so, place_of, same_known, yes_not_no}
@@ -127,7 +127,7 @@ module _ (runs : RunsOfEntriesAreWhole) (every : WayYesListsEveryEnd) (starts : 
 
 -- ---- more patience
 
-module _ (runs : RunsOfEntriesAreWhole) (every : WayYesListsEveryEnd) (single : HasOneVerdict) (one : HasOneVerdictOver) (none : NoOrderExplains) where
+module _ (runs : RunsOfEntriesAreWhole) (every : WayYesListsEveryEnd) (starts : TwoStartsEndAll) (single : HasOneVerdict) (one : HasOneVerdictOver) (none : NoOrderExplains) where
   -- a yes is one with more patience
   more_yes : (config : Config) (wanted : Import) (more : ℕ) (packets : List Recorded) (segments : List Segment) (number : Option ℕ) (entries : List Entry) (ends : List End)
       → wanted.within ≤ more → IsYesOfAnother config wanted packets segments number entries ends
@@ -152,21 +152,26 @@ module _ (runs : RunsOfEntriesAreWhole) (every : WayYesListsEveryEnd) (single : 
         };
       }
 
-  keeps_by : (config : Config) (reported : Report) (wanted : Import) (packets : List Recorded) (segments : List Segment) (number called : Option ℕ) (ends : List End) (text printed : List ℕ)
-      (status code : ℕ) (others : List Remark) → AreTaken wanted.selection 0 packets segments → Known config wanted packets segments number (Yes ends) → Prints (Yes ends) text status
-      → Says config reported wanted packets segments number called printed code others
-      → ((ends : List End) × Prints (Yes ends) text status × Prints (Yes ends) printed code) ⊎ SaysNothing config wanted packets segments number called printed code others
-  keeps_by config reported wanted packets segments number called ends text printed status code others taken known prints (inr nothing) = inr nothing
-  keeps_by config reported wanted packets segments number called ends text printed status code others taken known prints (inl (answer, also, too)) =
-      let same = same_known runs every single one config wanted packets segments number taken (Yes ends) answer known also in
-      inl (ends, prints, subst (λ (v : Answer). Prints v printed code) (sym same) too)
+  keeps_by : (config : Config) (reported : Report) (wanted : Import) (more : ℕ) (packets : List Recorded) (segments : List Segment) (number called : Option ℕ) (ends : List End)
+      (text printed : List ℕ) (status code : ℕ) (others : List Remark) → AreTaken wanted.selection 0 packets segments → AreAllEnds config wanted packets segments number ends
+      → Known config (with_patience wanted more) packets segments number (Yes ends) → Prints (Yes ends) text status
+      → Says config reported (with_patience wanted more) packets segments number called printed code others
+      → ((ends : List End) × AreAllEnds config wanted packets segments number ends × AreAllEnds config (with_patience wanted more) packets segments number ends
+      × Prints (Yes ends) text status × Prints (Yes ends) printed code)
+      ⊎ SaysNothing config (with_patience wanted more) packets segments number called printed code others
+  keeps_by config reported wanted more packets segments number called ends text printed status code others taken all known prints (inr nothing) = inr nothing
+  keeps_by config reported wanted more packets segments number called ends text printed status code others taken all known prints (inl (answer, also, too)) =
+      let same = same_known runs every single one config (with_patience wanted more) packets segments number taken (Yes ends) answer known also in
+      let later = all_ends every starts config (with_patience wanted more) packets segments number known.0 ends taken known.1 in
+      inl (ends, all, later, prints, subst (λ (v : Answer). Prints v printed code) (sym same) too)
 
   pub keeps_yes : MorePatienceKeepsAYes
   keeps_yes config report reported wanted more packets segments number named called text printed status code remarks others rest le taken print begins again =
       let yes = yes_by print.told rest (sym print.prints ∙ begins) in
       let known = yes_told config report wanted packets segments number named print.told yes.0 remarks print.is_told yes.1 in
+      let all = all_ends every starts config wanted packets segments number known.0 yes.0 taken known.1 in
       let later = more_yes config wanted more packets segments number known.0 yes.0 le known.1 in
-      keeps_by config reported (with_patience wanted more) packets segments number called yes.0 text printed status code others taken (known.0, later)
+      keeps_by config reported wanted more packets segments number called yes.0 text printed status code others taken all (known.0, later)
       (yes_lines yes.0 text status print.told print.prints print.tells yes.1)
       (says config reported (with_patience wanted more) packets segments number called printed code others again)
 

@@ -1,5 +1,5 @@
--- What more patience leaves of what is printed: a yes with its ends; and what less patience leaves of
--- it: a no.
+-- What more patience leaves of what is printed: a yes with its ends; and what less patience leaves
+-- of it: a no.
 use Rattle.std.specs.Prelude.{◌≡◌, ◌≤◌, ◌⊎◌, ◌++◌, ℕ, List, Option, codes}
 use Rattle.packets.specs.Packet.{Recorded}
 use Rattle.streams.specs.Passed.{Segment}
@@ -12,14 +12,15 @@ use Rattle.bgp_import.specs.declared.importing.Import.{Import}
 use Rattle.bgp_recording_tool.specs.Connections.{IsToldAs}
 use Rattle.bgp_recording_tool.specs.Headline.{IsByNoOrder}
 use Rattle.bgp_recording_tool.specs.declared.remark.Remark.{Remark}
+use Rattle.bgp_order_laws.specs.AllEnds.{AreAllEnds}
 use Rattle.bgp_order_laws.specs.OneAnswer.{Prints, SaysNothing, Yes, NoAt}
 
 -- the same, but each received message may be handled so many seconds after it came
 abbrev pub with_patience : Import → ℕ → Import
 with_patience wanted more = record wanted { within = more }
 
--- If a yes is printed, then with more patience the same lines are: `yes` and the same ends. Or
--- nothing is printed about all orders then.
+-- If a yes is printed, then with more patience the same lines are: `yes` and the same ends. These
+-- are all ends with either patience. Or nothing is printed about all orders then.
 abbrev pub MorePatienceKeepsAYes : Type 0
 MorePatienceKeepsAYes =
     (config : Config) (report reported : Report) (wanted : Import) (more : ℕ)
@@ -31,7 +32,9 @@ MorePatienceKeepsAYes =
     → text ≡ codes "yes\n" ++ rest
     → IsToldAs config reported (with_patience wanted more) packets segments number called printed
     code others
-    → ((ends : List End) × Prints (Yes ends) text status × Prints (Yes ends) printed code)
+    → ((ends : List End) × AreAllEnds config wanted packets segments number ends
+    × AreAllEnds config (with_patience wanted more) packets segments number ends
+    × Prints (Yes ends) text status × Prints (Yes ends) printed code)
     ⊎ SaysNothing config (with_patience wanted more) packets segments number called printed code
     others
 

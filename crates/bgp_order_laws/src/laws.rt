@@ -48,9 +48,10 @@ pub fn a_printed_verdict_is_the_only_one()
 /// Law: more patience takes no printed yes back, and less patience no printed no.
 ///
 /// If `yes` is printed of a connection, then with more patience (`--within`) the same lines are
-/// printed, `yes` and the same ends. If `no at packet` is printed, then with less patience it is
-/// printed, too, of that message or one before it. Or what is printed then says nothing of all
-/// orders, as [`a_printed_verdict_is_the_only_one`] has it.
+/// printed, `yes` and the same ends: all that the session can have, with either patience. If `no at
+/// packet` is printed, then with less patience it is printed, too, of that message or one before
+/// it. Or what is printed then says nothing of all orders, as
+/// [`a_printed_verdict_is_the_only_one`] has it.
 pub fn more_patience_keeps_a_printed_yes()
     ensures yes { MorePatienceKeepsAYes }
     ensures no { LessPatienceKeepsANo }
@@ -60,6 +61,7 @@ pub fn more_patience_keeps_a_printed_yes()
     one_verdict_over_all_ways();
     records_have_just_one_verdict();
     runs_of_entries_are_whole();
+    two_starts_are_enough();
 }
 
 /// Law: the ends that `check` prints behind a yes are all in which the session can have ended.

@@ -7,5 +7,6 @@ returns c =
     let every = c.a_yes_lists_all_ends.ensures.way in
     let single = c.records_have_just_one_verdict.ensures.one in
     let one = c.one_verdict_over_all_ways.ensures.one in
+    let starts = c.two_starts_are_enough.ensures.ends in
     let none = c.no_order_explains_a_no.ensures in
-    record { yes = keeps_yes runs every single one none; no = keeps_no runs every single one none }
+    record { yes = keeps_yes runs every starts single one none; no = keeps_no runs every starts single one none }
