@@ -1,6 +1,6 @@
 //! Paths that are made up.
 
-use bgp_path::{AsPath, Items, NextHop, Origin, Path, PathParts, Segment, SegmentKind};
+use bgp_path::{AsPath, Items, NextHop, Numbers, Origin, Path, PathParts, Segment, SegmentKind};
 use std::alloc::{AllocError, Global};
 
 /// The attributes that a made-up path has.
@@ -35,7 +35,7 @@ pub(crate) fn path_of(alloc: Global, attributes: Attributes) -> Result<Path, All
             local_pref: None,
             atomic_aggregate: false,
             aggregator: None,
-            communities: Items::from(attributes.communities),
+            communities: Numbers::from(attributes.communities),
             originator_id: None,
             cluster_list: Items::new(alloc),
             extended_communities: Items::new(alloc),

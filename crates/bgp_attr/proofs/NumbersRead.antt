@@ -1,5 +1,5 @@
 -- Numbers read one at a time.
-use Rattle.std.proofs.Common.{◌≡◌, ℕ, suc, ◌-◌, ◌/◌, ◌≤◌, List, [], ◌∷◌, ◌++◌, length, drop, sym, ap, ◌∙◌, append_assoc, arith, append-nil}
+use Rattle.std.proofs.Common.{◌≡◌, ℕ, suc, ◌+◌, ◌-◌, ◌/◌, ◌≤◌, List, [], ◌∷◌, ◌++◌, length, drop, sym, ap, ◌∙◌, append_assoc, arith, append-nil}
 use Rattle.std.proofs.lemmas.List.{length-drop}
 use Rattle.byteorder.specs.Endian.{big_number}
 use Rattle.bgp_attr.specs.Numbers.{numbers_in, items_in}
@@ -31,3 +31,10 @@ pub items_done : (size : ℕ) (numbers rest all : List ℕ) → length rest / si
 items_done size numbers rest all none h =
     let nothing : items_in size rest ≡ [] = ap (λ (n : ℕ). numbers_in n size rest) none in
     sym (append-nil numbers) ∙ ap (λ (t : List ℕ). numbers ++ t) (sym nothing) ∙ h
+
+-- those that are to come fit beside those that came
+pub room_left : (size : ℕ) → StepsBy size → (most : ℕ) (old new rest after : List ℕ) → size ≤ length rest → after ≡ drop size rest → length new ≡ length old + 1
+    → length old + length rest / size ≤ most → length new + length after / size ≤ most
+room_left size steps most old new rest after enough gone push before =
+    let left : length after / size ≡ (length rest - size) / size = ap (λ (t : List ℕ). length t / size) gone ∙ ap (λ (n : ℕ). n / size) (length-drop size rest) in
+    omega (arith, steps (length rest) enough, left, push, before)

@@ -1,9 +1,11 @@
 //! Lists of numbers as the octets of an attribute hold them (RFC 1997; 4360; 4456, 8).
 
-ghost use Rattle.std.specs.Prelude.{◌≡◌, ◌≤◌, ◌<◌, IfSome, IfNone, IfOk, length, drop};
+ghost use Rattle.std.specs.Prelude.{◌≡◌, ◌*◌, ◌≤◌, ◌<◌, IfSome, IfNone, IfOk, length, drop};
 ghost use Rattle.byteorder.specs.Endian.{big_number};
 ghost use Rattle.bgp_attr.specs.Numbers.{items_in};
 
+use arrayvec::ArrayVec;
+use bgp_path::Numbers;
 use byteorder::{BigEndian, ByteOrder};
 use std::alloc::{AllocError, Allocator};
 
@@ -49,8 +51,59 @@ fn split_u64(octets: &[u8]) -> Option<(u64, &[u8])>
     Some((BigEndian::read_u64(front), rest))
 }
 
+/// So many of them take no memory.
+const FEW: usize = 8;
+
+/// A list of numbers of two octets each.
+pub(crate) fn u16_numbers<A: Allocator>(alloc: A, octets: &[u8]) -> Result<Numbers<A>, AllocError>
+    ensures { IfOk result (λ numbers. numbers ≡ items_in 2 octets.now) }
+{
+    if octets.len() <= 2 * FEW {
+        return Ok(Numbers::from(few_u16s(octets)));
+    }
+    Ok(Numbers::from(read_u16s(alloc, octets)?))
+}
+
+/// A list of numbers of four octets each.
+pub(crate) fn u32_numbers<A: Allocator>(alloc: A, octets: &[u8]) -> Result<Numbers<A>, AllocError>
+    ensures { IfOk result (λ numbers. numbers ≡ items_in 4 octets.now) }
+{
+    if octets.len() <= 4 * FEW {
+        return Ok(Numbers::from(few_u32s(octets)));
+    }
+    Ok(Numbers::from(read_u32s(alloc, octets)?))
+}
+
+/// So few numbers of two octets each.
+fn few_u16s(octets: &[u8]) -> ArrayVec<u32, 8>
+    requires { length octets.now ≤ 2 * 8 }
+    ensures { result.items ≡ items_in 2 octets.now }
+{
+    let mut numbers = ArrayVec::new();
+    let mut rest = octets;
+    while let Some((number, after)) = split_u16(rest) {
+        numbers.push(u32::from(number));
+        rest = after;
+    }
+    numbers
+}
+
+/// So few numbers of four octets each.
+fn few_u32s(octets: &[u8]) -> ArrayVec<u32, 8>
+    requires { length octets.now ≤ 4 * 8 }
+    ensures { result.items ≡ items_in 4 octets.now }
+{
+    let mut numbers = ArrayVec::new();
+    let mut rest = octets;
+    while let Some((number, after)) = split_u32(rest) {
+        numbers.push(number);
+        rest = after;
+    }
+    numbers
+}
+
 /// The numbers of two octets each.
-pub(crate) fn read_u16s<A: Allocator>(alloc: A, octets: &[u8]) -> Result<Vec<u32, A>, AllocError>
+fn read_u16s<A: Allocator>(alloc: A, octets: &[u8]) -> Result<Vec<u32, A>, AllocError>
     ensures { IfOk result (λ numbers. numbers.items ≡ items_in 2 octets.now) }
 {
     let mut numbers = Vec::with_capacity(alloc, octets.len() / 2)?;

@@ -19,11 +19,11 @@ ghost use Rattle.bgp_attr.specs.Segments.{are_segments, number_width};
 use crate::classes::Side;
 use crate::first::FirstAttrs;
 use crate::large_communities::read_large_communities;
-use crate::numbers::{read_u32s, read_u64s};
+use crate::numbers::{read_u32s, read_u64s, u32_numbers};
 use crate::segments::{number_len, read_as_path};
 use crate::types::AttrType;
 use bgp_path::{
-    Aggregator, AsPath, Items, LargeCommunity, NextHop, Origin, Path, PathParts, merge,
+    Aggregator, AsPath, Items, LargeCommunity, NextHop, Numbers, Origin, Path, PathParts, merge,
 };
 use bgp_wire::AS_TRANS;
 use byteorder::{BigEndian, ByteOrder};
@@ -83,7 +83,7 @@ fn read_parts<A: Allocator + Copy>(
 /// The lists of a path.
 struct Lists<A: Allocator> {
     as_path: AsPath<A>,
-    communities: Items<u32, A>,
+    communities: Numbers<A>,
     cluster_list: Items<u32, A>,
     extended_communities: Items<u64, A>,
     large_communities: Items<LargeCommunity, A>,
@@ -111,8 +111,8 @@ fn read_lists<A: Allocator + Copy>(
 {
     Ok(Lists {
         as_path: read_merged_path(alloc, side, first, is_old)?,
-        communities: read_items(alloc, side, first, AttrType::Communities)?,
-        cluster_list: read_items(alloc, side, first, AttrType::ClusterList)?,
+        communities: read_communities(alloc, side, first)?,
+        cluster_list: read_cluster_list(alloc, side, first)?,
         extended_communities: read_long_items(alloc, side, first)?,
         large_communities: read_large_items(alloc, side, first)?,
     })
@@ -254,17 +254,31 @@ fn read_path_of<A: Allocator + Copy>(
     Ok(Some(read_as_path(alloc, as4, attr.value)?))
 }
 
-/// The list of numbers of four octets that an attribute of this type says.
-fn read_items<A: Allocator>(
+/// COMMUNITIES: numbers of four octets.
+fn read_communities<A: Allocator>(
     alloc: A,
     side: Side,
     first: &FirstAttrs<'_>,
-    attr_type: AttrType,
-) -> Result<Items<u32, A>, AllocError>
-    ensures { IfOk result
-        (λ items. items ≡ items_from 4 (value_by_type side (first_at first.now) attr_type)) }
+) -> Result<Numbers<A>, AllocError>
+    ensures { IfOk result (λ numbers. numbers
+        ≡ items_from 4 (value_by_type side (first_at first.now) types.Communities)) }
 {
-    match first.good(side, attr_type) {
+    match first.good(side, AttrType::Communities) {
+        Some(attr) => u32_numbers(alloc, attr.value),
+        None => Ok(Numbers::new()),
+    }
+}
+
+/// CLUSTER_LIST: numbers of four octets.
+fn read_cluster_list<A: Allocator>(
+    alloc: A,
+    side: Side,
+    first: &FirstAttrs<'_>,
+) -> Result<Items<u32, A>, AllocError>
+    ensures { IfOk result (λ items. items
+        ≡ items_from 4 (value_by_type side (first_at first.now) types.ClusterList)) }
+{
+    match first.good(side, AttrType::ClusterList) {
         Some(attr) => Ok(Items::from(read_u32s(alloc, attr.value)?)),
         None => Ok(Items::new(alloc)),
     }

@@ -23,8 +23,8 @@ ghost use Rattle.bgp_wire.specs.AsNumber.{needs_four_octets};
 ghost use Rattle.bgp_attr.specs.Values.{as_octets, as_path_octets, wire_segment};
 ghost use Rattle.bgp_attr.specs.Writing.{has_large};
 
-use crate::numbers::{read_u16s, read_u32s};
-use bgp_path::{AsPath, Segment, SegmentKind};
+use crate::numbers::{u16_numbers, u32_numbers};
+use bgp_path::{AsPath, Numbers, Segment, SegmentKind};
 use bgp_wire::{needs_four_octets, put_u8, put_u16, put_u32, two_octet_as};
 use std::alloc::{AllocError, Allocator};
 
@@ -97,13 +97,13 @@ fn read_as_numbers<A: Allocator>(
     alloc: A,
     as4: bool,
     octets: &[u8],
-) -> Result<Vec<u32, A>, AllocError>
-    ensures { IfOk result (λ numbers. numbers.items ≡ items_in (number_width as4) octets.now) }
+) -> Result<Numbers<A>, AllocError>
+    ensures { IfOk result (λ numbers. numbers ≡ items_in (number_width as4) octets.now) }
 {
     if as4 {
-        return read_u32s(alloc, octets);
+        return u32_numbers(alloc, octets);
     }
-    read_u16s(alloc, octets)
+    u16_numbers(alloc, octets)
 }
 
 /// The first segment: none where it is one of a confederation.
@@ -120,7 +120,7 @@ fn read_segment<A: Allocator + Copy>(
         return Ok(None);
     };
     let numbers = read_as_numbers(alloc, as4, split_segment(as4, octets).0)?;
-    Ok(Segment::new(kind, numbers))
+    Ok(Segment::of(kind, numbers))
 }
 
 /// Appends a segment, where there is one.

@@ -2,7 +2,7 @@
 
 use bgp_path::SegmentKind::{Sequence, Set};
 use bgp_path::{
-    Aggregator, AsPath, Items, LargeCommunity, NextHop, Origin, Path, PathParts, Segment,
+    Aggregator, AsPath, Items, LargeCommunity, NextHop, Numbers, Origin, Path, PathParts, Segment,
     SegmentKind,
 };
 use std::alloc::{AllocError, Allocator};
@@ -118,7 +118,7 @@ pub fn parts_with<A: Allocator + Copy>(
         local_pref: parts.local_pref,
         atomic_aggregate: parts.atomic_aggregate,
         aggregator: parts.aggregator,
-        communities: Items::from(communities),
+        communities: Numbers::from(communities),
         originator_id: parts.originator_id,
         cluster_list: Items::from(cluster_list),
         extended_communities: Items::from(extended_communities),

@@ -6,3 +6,4 @@ pub mod Same
 pub mod SamePath
 pub mod SameLaws
 pub mod SamePathLaws
+pub mod Held

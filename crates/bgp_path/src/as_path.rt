@@ -4,6 +4,7 @@ ghost use Rattle.std.specs.Prelude.{◌≡◌, ◌≤◌, ◌<◌, length, IfSom
 ghost use Rattle.bgp_path.specs.AsPath.{count_of, merge_of};
 
 use crate::fit::numbers_are_fit;
+use crate::numbers::Numbers;
 use std::alloc::{AllocError, Allocator, Global};
 use std::marker::Model;
 
@@ -21,7 +22,7 @@ pub enum SegmentKind {
 #[derive_where(Debug)]
 pub struct Segment<A: Allocator = Global> {
     kind: SegmentKind,
-    numbers: Vec<u32, A>,
+    numbers: Numbers<A>,
 }
 
 impl<A: Allocator> Model for Segment<A> {
@@ -30,9 +31,9 @@ impl<A: Allocator> Model for Segment<A> {
 
     ghost Value = { PathSegment };
 
-    ghost view = { λ s. record { kind = s.kind; numbers = s.numbers.items } };
+    ghost view = { λ s. record { kind = s.kind; numbers = s.numbers } };
 
-    ghost invariant = { λ s. (1 ≤ length s.numbers.items) × (length s.numbers.items ≤ 255) };
+    ghost invariant = { λ s. (1 ≤ length s.numbers) × (length s.numbers ≤ 255) };
 }
 
 impl<A: Allocator> Segment<A> {
@@ -43,7 +44,16 @@ impl<A: Allocator> Segment<A> {
         ensures some { IsSome result ↔ ((1 ≤ length numbers.items) × (length numbers.items ≤ 255)) }
         ensures value { IfSome result (λ s. s ≡ record { kind = kind; numbers = numbers.items }) }
     {
-        if numbers.is_empty() || numbers.len() > 255 {
+        Segment::of(kind, Numbers::from(numbers))
+    }
+
+    /// The same of `Numbers`.
+    pub fn of(kind: SegmentKind, numbers: Numbers<A>) -> Option<Segment<A>>
+        ensures some { IsSome result ↔ ((1 ≤ length numbers) × (length numbers ≤ 255)) }
+        ensures value { IfSome result (λ s. s ≡ record { kind = kind; numbers = numbers }) }
+    {
+        let count = numbers.as_slice().len();
+        if count < 1 || count > 255 {
             return None;
         }
         Some(Segment { kind, numbers })
@@ -74,7 +84,7 @@ impl<A: Allocator> Segment<A> {
     {
         match self.kind {
             SegmentKind::Set => 1,
-            SegmentKind::Sequence => self.numbers.len(),
+            SegmentKind::Sequence => self.numbers.as_slice().len(),
         }
     }
 }
@@ -89,7 +99,7 @@ impl<A: Allocator + Copy> Segment<A> {
         ensures front { IfOk result
             (λ s. s ≡ record { kind = self.now.kind; numbers = take len self.now.numbers }) }
     {
-        let numbers = Vec::from_slice(alloc, &self.numbers[..len])?;
+        let numbers = Numbers::from_slice(alloc, &self.numbers.as_slice()[..len])?;
         Ok(Segment {
             kind: self.kind,
             numbers,
@@ -100,7 +110,7 @@ impl<A: Allocator + Copy> Segment<A> {
     fn copied(&self, alloc: A) -> Result<Segment<A>, AllocError>
         ensures copy { IfOk result (λ copy. copy ≡ self.now) }
     {
-        self.front(alloc, self.numbers.len())
+        self.front(alloc, self.numbers.as_slice().len())
     }
 }
 
@@ -108,7 +118,11 @@ impl<A: Allocator + Copy> Clone for Segment<A> {
     ghost is_clone = { λ s copy. copy ≡ s };
 
     fn clone(&self) -> Result<Segment<A>, AllocError> {
-        self.copied(*self.numbers.allocator())
+        let numbers = self.numbers.clone()?;
+        Ok(Segment {
+            kind: self.kind,
+            numbers,
+        })
     }
 }
 

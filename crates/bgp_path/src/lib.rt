@@ -14,6 +14,7 @@ mod fit;
 mod items;
 mod large_community;
 mod laws;
+mod numbers;
 mod path;
 
 pub use as_path::{AsPath, Segment, SegmentKind, merge};
@@ -21,4 +22,5 @@ pub use fit::path_is_fit;
 pub use items::Items;
 pub use large_community::{LargeCommunity, are_distinct};
 pub use laws::{equality_is_real, keeps_the_first, merge_keeps_the_count, one_leading_part};
+pub use numbers::Numbers;
 pub use path::{Aggregator, NextHop, Origin, Path, PathParts};

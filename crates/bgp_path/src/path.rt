@@ -5,6 +5,7 @@ ghost use Rattle.std.specs.Prelude.{◌≡◌, IfOk};
 use crate::as_path::AsPath;
 use crate::items::Items;
 use crate::large_community::LargeCommunity;
+use crate::numbers::Numbers;
 use std::alloc::{AllocError, Allocator, Global};
 use std::marker::Model;
 use std::rc::Rc;
@@ -59,7 +60,7 @@ pub struct PathParts<A: Allocator = Global> {
     /// AGGREGATOR, or AS4_AGGREGATOR in its place.
     pub aggregator: Option<Aggregator>,
     /// COMMUNITIES (RFC 1997).
-    pub communities: Items<u32, A>,
+    pub communities: Numbers<A>,
     /// ORIGINATOR_ID (RFC 4456, 8).
     pub originator_id: Option<u32>,
     /// CLUSTER_LIST (RFC 4456, 8).
@@ -116,7 +117,7 @@ pub struct Path<A: Allocator = Global> {
 // What a route's entry holds of its path, and what all routes with that path share.
 const _: () = prove!(size_of::<Path>() == 8);
 
-const _: () = prove!(size_of::<PathParts>() == 224);
+const _: () = prove!(size_of::<PathParts>() == 240);
 
 impl<A: Allocator> Model for Path<A> {
     ghost use Rattle.bgp_path.specs.Path.{PathValue};

@@ -20,7 +20,7 @@ use bgp_machine::Want;
 use bgp_open::{
     Config, Link, Notification, NotificationWriteFault, write_notification, write_own_open,
 };
-use bgp_path::{AsPath, Items, NextHop, Origin, Path, PathParts, Segment, SegmentKind};
+use bgp_path::{AsPath, Items, NextHop, Numbers, Origin, Path, PathParts, Segment, SegmentKind};
 use bgp_prefix::{Family, Prefix};
 use bgp_update_writer::{Update, UpdateFault, one_prefix_can_be_written, write_update};
 use bgp_wire::{ErrorCode, put_keepalive};
@@ -225,7 +225,7 @@ fn announced_path<A: Allocator + Copy>(
         local_pref: link.internal.then_some(LOCAL_PREFERENCE),
         atomic_aggregate: false,
         aggregator: None,
-        communities: Items::new(alloc),
+        communities: Numbers::new(),
         originator_id: None,
         cluster_list: Items::new(alloc),
         extended_communities: Items::new(alloc),

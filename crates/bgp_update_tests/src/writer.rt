@@ -8,7 +8,7 @@ mod sizes;
 
 use bgp_open::{Config, Families, Link, negotiate, read_open};
 use bgp_path::{
-    AsPath, Items, LargeCommunity, NextHop, Origin, Path, PathParts, Segment, SegmentKind,
+    AsPath, Items, LargeCommunity, NextHop, Numbers, Origin, Path, PathParts, Segment, SegmentKind,
 };
 use bgp_prefix::{Family, Prefix, read_prefix};
 use bgp_update_writer::{Update, UpdateFault, write_update};
@@ -178,7 +178,7 @@ pub fn path_of(alloc: Global, said: &Said<'_>) -> Result<Path, AllocError> {
         local_pref: said.local_pref,
         atomic_aggregate: false,
         aggregator: None,
-        communities: Items::from(communities),
+        communities: Numbers::from(communities),
         originator_id: said.originator_id,
         cluster_list: Items::from(cluster_list),
         extended_communities: Items::new(alloc),

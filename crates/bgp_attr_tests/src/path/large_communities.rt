@@ -3,10 +3,10 @@
 use super::*;
 
 /// Three numbers, as those of a large community.
-type Numbers = (u32, u32, u32);
+type Three = (u32, u32, u32);
 
 /// The large community of three numbers.
-fn large(numbers: Numbers) -> LargeCommunity {
+fn large(numbers: Three) -> LargeCommunity {
     LargeCommunity {
         global_administrator: numbers.0,
         local_data_part_1: numbers.1,
@@ -15,7 +15,7 @@ fn large(numbers: Numbers) -> LargeCommunity {
 }
 
 /// Large communities, and their texts: the examples of RFC 8092, 5, the least and the greatest.
-static TEXTS: [(Numbers, &str); 4] = [
+static TEXTS: [(Three, &str); 4] = [
     ((64496, 4294967295, 2), "64496:4294967295:2"),
     ((64496, 0, 0), "64496:0:0"),
     ((0, 0, 0), "0:0:0"),
@@ -41,7 +41,7 @@ fn a_large_community_prints_as_three_decimals(rt: HostRuntime) {
 }
 
 /// Lists, and whether no two of a list are equal.
-static LISTS: [(&[Numbers], bool); 7] = [
+static LISTS: [(&[Three], bool); 7] = [
     (&[], true),
     (&[(1, 1, 1)], true),
     (&[(1, 1, 1), (1, 1, 1)], false),
@@ -52,7 +52,7 @@ static LISTS: [(&[Numbers], bool); 7] = [
 ];
 
 /// The large communities of these numbers.
-fn all(alloc: Global, list: &[Numbers]) -> Result<Vec<LargeCommunity>, AllocError> {
+fn all(alloc: Global, list: &[Three]) -> Result<Vec<LargeCommunity>, AllocError> {
     let mut communities = Vec::with_capacity(alloc, list.len())?;
     for numbers in list {
         communities.push(large(*numbers))?;
@@ -61,7 +61,7 @@ fn all(alloc: Global, list: &[Numbers]) -> Result<Vec<LargeCommunity>, AllocErro
 }
 
 /// Whether it is told of these that no two are equal, just where that is so.
-fn is_told(alloc: Global, list: &[Numbers], wanted: bool) -> bool {
+fn is_told(alloc: Global, list: &[Three], wanted: bool) -> bool {
     match all(alloc, list) {
         Ok(communities) => are_distinct(&communities) == wanted,
         Err(_) => false,

@@ -68,9 +68,19 @@ fn is_copied_alike<'h, T: Copy + PartialEq>(items: &Items<T, &'h LocalHeap>) -> 
     }
 }
 
+/// Whether a copy of numbers is equal to them.
+fn are_numbers_copied<'h>(numbers: &Numbers<&'h LocalHeap>) -> bool {
+    let copy: Result<Numbers<&'h LocalHeap>, AllocError> = numbers.clone();
+    match copy {
+        Ok(copy) => copy == *numbers,
+        Err(_) => false,
+    }
+}
+
 /// Whether copies of a path's communities are equal to them.
 fn are_copied(path: &PathParts<&LocalHeap>) -> bool {
-    is_copied_alike(&path.communities)
+    are_numbers_copied(&path.communities)
+        && is_copied_alike(&path.cluster_list)
         && is_copied_alike(&path.extended_communities)
         && is_copied_alike(&path.large_communities)
 }
@@ -91,6 +101,24 @@ fn ample_memory(rt: HostRuntime) -> Result<(), Fail> {
             && is_copied_and_merged(&heap)
             && is_copied_or_shared(&heap, &WHOLE)
     );
+    Ok(())
+}
+
+/// How much memory a copy of these numbers takes.
+fn taken(heap: &LocalHeap, numbers: &[u32]) -> Option<usize> {
+    let used = heap.used();
+    match Numbers::from_slice(heap, numbers) {
+        Ok(copy) if copy.as_slice() == numbers => heap.used().checked_sub(used),
+        _ => None,
+    }
+}
+
+#[test]
+fn eight_numbers_take_no_memory(rt: HostRuntime) -> Result<(), Fail> {
+    let heap = LocalHeap::new(rt.alloc(), 8192)?;
+    assert!(rt; taken(&heap, &[]) == Some(0));
+    assert!(rt; taken(&heap, &[1, 2, 3, 4, 5, 6, 7, 8]) == Some(0));
+    assert!(rt; taken(&heap, &[1, 2, 3, 4, 5, 6, 7, 8, 9]) != Some(0));
     Ok(())
 }
 

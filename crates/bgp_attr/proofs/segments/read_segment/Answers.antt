@@ -10,6 +10,6 @@ bounds-octets-0 g c = let h = has 4 (number_width c.args.as4) c.args.octets.now 
 
 pub returns : goal.returns
 returns g c =
-    made c.args.as4 c.args.octets.now c.in-Some.kind c.in_ok-numbers.numbers.items c.new.result c.requires c.in-Some.ensures
+    made c.args.as4 c.args.octets.now c.in-Some.kind c.in_ok-numbers.numbers c.of.result c.requires c.in-Some.ensures
     (c.in_ok-numbers.ensures ∙ ap (items_in (number_width c.args.as4)) c.split_segment.ensures.numbers)
-    (omega (arith, c.type_inv.octets 1)) c.new.ensures.some c.new.ensures.value
+    (omega (arith, c.type_inv.octets 1)) c.of.ensures.some c.of.ensures.value

@@ -1,0 +1,12 @@
+use Rattle.std.proofs.Common.{◌≡◌, ◌+◌, ◌/◌, ◌≤◌, ◌++◌, length}
+use Rattle.bgp_attr.specs.Numbers.{items_in}
+use Rattle.bgp_attr.proofs.numbers.few_u16s.Given as goal
+
+abbrev pub invariant-loop-number : goal.invariant-loop-number
+invariant-loop-number l = record {
+  so_far : l.numbers.items ++ items_in 2 l.rest ≡ items_in 2 l.octets;
+  room : length l.numbers.items + length l.rest / 2 ≤ 8;
+}
+
+abbrev pub decreases-loop-number : goal.decreases-loop-number
+decreases-loop-number l = length l.rest
