@@ -8,7 +8,7 @@ mod memory;
 mod tables;
 
 use bgp_open::Families;
-use bgp_path::{AsPath, Items, NextHop, Numbers, Origin, Path, PathParts, Segment, SegmentKind};
+use bgp_path::{AsPath, Items, NextHop, Origin, Path, PathParts, Segment, SegmentKind};
 use bgp_prefix::{Address, Family, Prefix};
 use bgp_rib::*;
 use bgp_update::{Changes, Destination, PathId, Put};
@@ -103,7 +103,7 @@ fn path<A: Allocator + Copy>(alloc: A, mark: u32) -> Result<Path<A>, AllocError>
         local_pref: Some(mark),
         atomic_aggregate: false,
         aggregator: None,
-        communities: Numbers::new(),
+        communities: bgp_path::Numbers::new(),
         originator_id: None,
         cluster_list: Items::new(alloc),
         extended_communities: Items::new(alloc),

@@ -1,5 +1,5 @@
 -- Routes in groups, and the changes that they make.
-use Rattle.std.proofs.Common.{◌≡◌, ℕ, List, [], ◌∷◌, ◌++◌, Bool, true, false, Option, None, Some, Result, Ok, Err, refl, ap, sym, ◌∙◌, append_assoc, inl, inr}
+use Rattle.std.proofs.Common.{◌≡◌, ℕ, ◌==◌, List, [], ◌∷◌, ◌++◌, length, Bool, true, false, Option, None, Some, Result, Ok, Err, refl, ap, sym, ◌∙◌, append_assoc, inl, inr}
 use Rattle.std.specs.Prelude.{IfOk, OnOk}
 use Rattle.bgp_open.specs.Family.{Family}
 use Rattle.bgp_open.specs.Family.TheVariants.{V4}
@@ -17,6 +17,7 @@ use Rattle.bgp_attr.specs.PathFrom.{path_from, next_hop_from}
 use Rattle.bgp_attr.specs.Types.{type_number}
 use Rattle.bgp_update.specs.Changes.{Route, routes_with, base_destinations, destinations_among, mp_hop, mp_destinations, AreChanges}
 use Rattle.bgp_update.specs.Found.{Found, MpFound, mp_found, is_repeated, side_of}
+use Rattle.bgp_update.specs.Groups.{group_with}
 use Rattle.bgp_update.specs.Listed.{listed}
 use Rattle.bgp_update.specs.Mp.{Mp, mp_state, has_other_bits}
 use Rattle.bgp_update.specs.MpValue.{Contents}
@@ -96,3 +97,11 @@ mp_by link x first =
 
 pub never : {b : Bool} → b ≡ true → b ≡ false → ⊥
 never h k = absurd cc
+
+-- what was appended to nothing, and isn't empty, is a group
+pub one_group : (out old all : List Destination) (n : ℕ) → n ≡ length out → old ≡ [] → out ≡ old ++ all → (n == 0) ≡ false → out ∷ [] ≡ group_with all
+one_group out old [] n len none is some =
+    let nothing : out ≡ [] = is ∙ ap (λ (t : List Destination). t ++ []) none in
+    let e : true ≡ false = ap (λ (k : ℕ). k == 0) (sym (len ∙ ap length nothing)) ∙ some in
+    absurd cc
+one_group out old (d ∷ ds) n len none is some = ap (λ (t : List Destination). t ∷ []) (is ∙ ap (λ (t : List Destination). t ++ d ∷ ds) none)
