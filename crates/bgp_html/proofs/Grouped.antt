@@ -1,9 +1,11 @@
 -- Lines stand together in groups: each once, in its place.
-use Rattle.std.proofs.Common.{◌≡◌, ◌∙◌, ◌++◌, ◌<◌, ℕ, Bool, true, false, List, [], ◌∷◌, length, if◌then◌else◌, nat_lt, refl, ap, append_assoc, arith, inl, inr}
+use Rattle.std.proofs.Common.{◌≡◌, ◌∙◌, ◌++◌, ◌<◌, ◌≤◌, ℕ, Bool, true, false, List, [], ◌∷◌, length, if◌then◌else◌, nat_lt, refl, sym, ap, subst, append_assoc, append-nil, arith, inl, inr}
 use Rattle.std.specs.List.{flat_map}
-use Rattle.std.proofs.lemmas.Bool.{and_parts, ltb-true}
+use Rattle.std.proofs.lemmas.Bool.{and_from, and_parts, lt-ltb, ltb-true}
 use Rattle.std.proofs.lemmas.List.{length-append}
-use Rattle.bgp_html.specs.Groups.{AreAllGroups, AreApart, IsGroup, LinesStandTogether, are_indented, goes_with, groups_from, groups_of, most_lines}
+use Rattle.std.proofs.lemmas.List.Folds.{list_all-append}
+use Rattle.bgp_html.specs.Groups.{AreAllGroups, AreApart, AreGroups, IsGroup, LinesStandTogether, are_indented, goes_with, groups_from, groups_of, most_lines}
+use Rattle.bgp_html.specs.Kinds.{is_indented, kind_of}
 
 -- ---- each once
 
@@ -32,7 +34,7 @@ joined_group group line goes =
     let both = and_parts (nat_lt (length group) most_lines) (are_indented (group ++ line ∷ [])) goes in
     let room : length group < 100 = ltb-true (length group) 100 both.0 in
     let longer = length-append group (line ∷ []) in
-    inr (both.1, omega (arith, room, longer))
+    inr (both.1, omega (arith, longer), omega (arith, room, longer))
 
 alike_by : (group lines : List (List ℕ)) (line : List ℕ) (goes : Bool) → IsGroup group → (goes ≡ true → IsGroup (group ++ line ∷ []))
     → (IsGroup (group ++ line ∷ []) → AreAllGroups (groups_from (group ++ line ∷ []) lines)) → AreAllGroups (groups_from (line ∷ []) lines)
@@ -80,5 +82,56 @@ all_apart : (lines : List (List ℕ)) → AreApart (groups_of lines)
 all_apart [] = tt
 all_apart (line ∷ lines) = apart_from lines (line ∷ [])
 
+are_groups : (lines : List (List ℕ)) → AreGroups lines (groups_of lines)
+are_groups lines = record { all = all_lines lines; alike = all_alike lines; apart = all_apart lines }
+
+-- ---- in no other way
+
+not_empty : {X : Type 0} → IsGroup [] → X
+not_empty (inl one) = absurd (omega (arith, one))
+not_empty (inr (all, some, few)) = absurd (omega (arith, some))
+
+-- a line of a group goes with those before it
+goes_in : (before : List (List ℕ)) (line : List ℕ) (rest : List (List ℕ)) → 1 ≤ length before → IsGroup (before ++ line ∷ rest) → goes_with before line ≡ true
+goes_in before line rest some (inl one) = let both = length-append before (line ∷ rest) in absurd (omega (arith, some, one, both))
+goes_in before line rest some (inr (all, any, few)) =
+    let indented = λ (l : List ℕ). is_indented (kind_of l) in
+    let both = length-append before (line ∷ rest) in
+    let room : length before < 100 = omega (arith, few, both) in
+    let parts = and_parts (are_indented before) (are_indented (line ∷ rest)) (sym (list_all-append indented before (line ∷ rest)) ∙ all) in
+    let one = (and_parts (is_indented (kind_of line)) (are_indented rest) parts.1).0 in
+    and_from (nat_lt (length before) most_lines) (are_indented (before ++ line ∷ [])) (lt-ltb (length before) 100 room)
+    (list_all-append indented before (line ∷ []) ∙ and_from (are_indented before) (are_indented (line ∷ [])) parts.0 (and_from (is_indented (kind_of line)) true one refl))
+
+abbrev Ends : List (List (List ℕ)) → Type 0
+Ends groups =
+    (before : List (List ℕ)) → 1 ≤ length before → AreAllGroups (before ∷ groups) → AreApart (before ∷ groups) → groups_from before (flat groups) ≡ before ∷ groups
+
+only_in : (groups : List (List (List ℕ))) → Ends groups → (rest before : List (List ℕ)) → 1 ≤ length before
+    → AreAllGroups ((before ++ rest) ∷ groups) → AreApart ((before ++ rest) ∷ groups) → groups_from before (rest ++ flat groups) ≡ (before ++ rest) ∷ groups
+only_in groups ends [] before some alike apart =
+    let same = append-nil before in
+    ends before some (subst (λ (g : List (List ℕ)). AreAllGroups (g ∷ groups)) same alike) (subst (λ (g : List (List ℕ)). AreApart (g ∷ groups)) same apart)
+    ∙ ap (λ (g : List (List ℕ)). g ∷ groups) (sym same)
+only_in groups ends (line ∷ rest) before some alike apart =
+    let moved : before ++ line ∷ rest ≡ (before ++ line ∷ []) ++ rest = sym (append_assoc before (line ∷ []) rest) in
+    let longer = length-append before (line ∷ []) in
+    rw (goes_in before line rest some alike.0)
+    (only_in groups ends rest (before ++ line ∷ []) (omega (arith, longer))
+    (subst (λ (g : List (List ℕ)). AreAllGroups (g ∷ groups)) moved alike) (subst (λ (g : List (List ℕ)). AreApart (g ∷ groups)) moved apart)
+    ∙ ap (λ (g : List (List ℕ)). g ∷ groups) (sym moved))
+
+all_end : (groups : List (List (List ℕ))) → Ends groups
+all_end [] before some alike apart = refl
+all_end ([] ∷ groups) before some alike apart = not_empty alike.1.0
+all_end ((line ∷ more) ∷ groups) before some alike apart =
+    rw apart.0 (ap (λ (gs : List (List (List ℕ))). before ∷ gs) (only_in groups (all_end groups) more (line ∷ []) (omega arith) alike.1 apart.1))
+
+only : (lines : List (List ℕ)) (groups : List (List (List ℕ))) → AreGroups lines groups → groups ≡ groups_of lines
+only lines [] its = ap groups_of its.all
+only lines ([] ∷ groups) its = not_empty its.alike.0
+only lines ((line ∷ more) ∷ groups) its =
+    sym (only_in groups (all_end groups) more (line ∷ []) (omega arith) its.alike its.apart) ∙ ap groups_of its.all
+
 pub stand_together : LinesStandTogether
-stand_together lines = record { all = all_lines lines; alike = all_alike lines; apart = all_apart lines }
+stand_together lines groups = (only lines groups, λ is. subst (λ (gs : List (List (List ℕ))). AreGroups lines gs) (sym is) (are_groups lines))

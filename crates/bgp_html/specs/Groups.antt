@@ -1,6 +1,6 @@
 -- Which lines of a report stand together in one element: few elements are drawn fast, and so is one
 -- with few lines.
-use Rattle.std.specs.Prelude.{◌≡◌, ◌≤◌, ◌⊎◌, ◌&&◌, ◌++◌, ℕ, Bool, true, false, List, [], ◌∷◌}
+use Rattle.std.specs.Prelude.{◌≡◌, ◌≤◌, ◌⊎◌, ◌↔◌, ◌&&◌, ◌++◌, ℕ, Bool, true, false, List, [], ◌∷◌}
 use Rattle.std.specs.Prelude.{⊤, if◌then◌else◌, length, nat_lt}
 use Rattle.std.specs.List.{flat_map, list_all}
 use Rattle.bgp_html.specs.Kinds.{is_indented, kind_of}
@@ -43,7 +43,8 @@ group_piece (line ∷ lines) = Printed (kind_of line) (text_of (line ∷ lines))
 
 abbrev pub IsGroup : List (List ℕ) → Type 0
 IsGroup group =
-    (length group ≡ 1) ⊎ ((are_indented group ≡ true) × (length group ≤ most_lines))
+    (length group ≡ 1)
+    ⊎ ((are_indented group ≡ true) × (1 ≤ length group) × (length group ≤ most_lines))
 
 abbrev pub AreAllGroups : List (List (List ℕ)) → Type 0
 AreAllGroups [] = ⊤
@@ -68,6 +69,8 @@ pub record AreGroups (lines : List (List ℕ)) (groups : List (List (List ℕ)))
   -- and none can take the first line of the next
   pub apart : AreApart groups
 
--- Lines stand together so.
+-- Lines stand together so, and in no other way.
 abbrev pub LinesStandTogether : Type 0
-LinesStandTogether = (lines : List (List ℕ)) → AreGroups lines (groups_of lines)
+LinesStandTogether =
+    (lines : List (List ℕ)) (groups : List (List (List ℕ)))
+    → AreGroups lines groups ↔ (groups ≡ groups_of lines)

@@ -49,6 +49,7 @@ pub fn notes_are_lines()
 
 /// The lines of a report stand in elements in their order, each once: one alone, or several that
 /// are indented, at most 100; and no line that could stand with those before it begins an element.
+/// There is one way to do so.
 pub fn lines_stand_together()
     ensures { LinesStandTogether }
 {}
