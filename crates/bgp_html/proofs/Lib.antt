@@ -6,5 +6,6 @@ mod Names
 pub mod Seen
 pub mod Own
 mod Steps
+mod Grouped
 pub mod Reported
 pub mod InNotes

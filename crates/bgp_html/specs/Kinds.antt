@@ -1,5 +1,5 @@
 -- What a line of `bgp check` says, by how it begins.
-use Rattle.std.specs.Prelude.{◌==◌, ◌||◌, ℕ, Bool, List, codes, if◌then◌else◌}
+use Rattle.std.specs.Prelude.{◌==◌, ◌||◌, ℕ, Bool, true, false, List, codes, if◌then◌else◌}
 use Rattle.std.specs.List.{starts_with}
 use Rattle.bgp_html.specs.declared.printed.Kind.{Kind}
 use Rattle.bgp_html.specs.declared.printed.Kind.TheVariants as kinds
@@ -21,3 +21,15 @@ kind_of line =
     if begins line (codes "not ") then kinds.NotJudged else
     if begins line (codes "ends") then kinds.Totals else
     kinds.Whole
+
+-- whether such lines are indented
+abbrev pub is_indented : Kind → Bool
+is_indented kinds.Connection = false
+is_indented kinds.Yes = false
+is_indented kinds.No = false
+is_indented kinds.Unfinished = false
+is_indented kinds.NotJudged = false
+is_indented kinds.Possible = true
+is_indented kinds.Beside = true
+is_indented kinds.Whole = false
+is_indented kinds.Totals = false

@@ -7,6 +7,7 @@ pub mod Printed
 pub mod Tags
 pub mod Pieces
 pub mod Reading
+pub mod Groups
 pub mod Report
 pub mod Noted
 pub mod Notes

@@ -78,17 +78,18 @@ style_6 =
     ++ (codes ".run{color:var(--pale);font-style:italic}.run div{border-style:none}\n"
     ++ (codes ".could{color:var(--ink)}.could div{border:1px dashed;margin:.1rem 2rem}\n"
     ++ (codes "@media screen{body{display:flex;flex-direction:column}\n"
-    ++ codes "details[open]{content-visibility:auto;contain-intrinsic-height:auto 60rem}\n"))))))
+    ++ codes "details[open]{content-visibility:auto;contain-intrinsic-height:auto 20rem}\n"))))))
 
 abbrev pub style_7 : List ℕ
 style_7 =
-    codes "h1{order:-3}body>.about{order:-2}body>.about~.about{order:1}.sum{order:-1}}\n"
+    codes "pre+pre samp{content-visibility:auto;contain-intrinsic-height:auto 127.5rem}\n"
+    ++ (codes "h1{order:-3}body>.about{order:-2}body>.about~.about{order:1}.sum{order:-1}}\n"
     ++ (codes "@media print,(max-width:60rem){td:nth-last-child(3),td:last-child{width:6rem}\n"
     ++ (codes "td:first-child{white-space:normal;min-width:6.5rem}.could div{margin:.1rem}}\n"
     ++ (codes "@media print{:root{font-size:9pt}body{max-width:none;margin:0}\n"
     ++ (codes "h2,h3,summary{break-after:avoid}tr{break-inside:avoid}\n"
     ++ (codes "details::details-content{display:block;content-visibility:visible;\n"
-    ++ codes "block-size:auto}}\n")))))
+    ++ codes "block-size:auto}}\n"))))))
 
 abbrev pub style_8 : List ℕ
 style_8 =

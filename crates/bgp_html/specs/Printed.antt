@@ -2,7 +2,6 @@
 -- some.
 use Rattle.std.specs.Prelude.{◌++◌, ℕ, List, [], ◌∷◌, codes}
 use Rattle.bgp_html.specs.Escaped.{escaped}
-use Rattle.bgp_html.specs.Kinds.{kind_of}
 use Rattle.bgp_html.specs.declared.printed.Kind.{Kind}
 use Rattle.bgp_html.specs.declared.printed.Kind.TheVariants as kinds
 
@@ -35,7 +34,3 @@ abbrev pub printed_html : Kind → List ℕ → List ℕ
 printed_html kind [] = []
 printed_html kind (octet ∷ text) =
     kind_start kind ++ (escaped (octet ∷ text) ++ kind_end kind)
-
--- of a line of which this is the front, what stands before the rest
-abbrev pub begun_html : List ℕ → List ℕ
-begun_html front = kind_start (kind_of front) ++ escaped front

@@ -2,8 +2,8 @@
 use Rattle.std.specs.Prelude.{◌≡◌, ◌==◌, ◌||◌, ◌++◌, ℕ, List, [], ◌∷◌, map, nat_lt}
 use Rattle.std.specs.Prelude.{if◌then◌else◌}
 use Rattle.std.specs.List.{flat_map}
-use Rattle.bgp_html.specs.Kinds.{kind_of}
-use Rattle.bgp_html.specs.Pieces.{Markup, Piece, Printed, Words, html_of, printed_of}
+use Rattle.bgp_html.specs.Groups.{group_piece, groups_of}
+use Rattle.bgp_html.specs.Pieces.{Markup, Piece, Words, html_of, printed_of}
 use Rattle.bgp_html.specs.Reading.{printed}
 use Rattle.bgp_html.specs.declared.tag.Tag.TheVariants.{AfterName, AfterTitle, Page}
 
@@ -34,12 +34,9 @@ lines_from front (octet ∷ octets) =
     if octet == 10 then (front ++ octet ∷ []) ∷ lines_from [] octets
     else lines_from (front ++ octet ∷ []) octets
 
--- each stands in an element of its own
-abbrev pub line_piece : List ℕ → Piece
-line_piece line = Printed (kind_of line) line
-
+-- their elements
 abbrev pub line_pieces : List (List ℕ) → List Piece
-line_pieces lines = map line_piece lines
+line_pieces lines = map group_piece (groups_of lines)
 
 -- what is written of them
 abbrev pub lines_html : List ℕ → List ℕ

@@ -1,6 +1,7 @@
 //! Laws of text in HTML, each on a function that does nothing.
 
 ghost use Rattle.bgp_html.specs.Escaped.{EscapedTextIsNoMarkup, EscapedTextIsThatTextAlone};
+ghost use Rattle.bgp_html.specs.Groups.{LinesStandTogether};
 ghost use Rattle.bgp_html.specs.Noted.{NotesAreLines};
 ghost use Rattle.bgp_html.specs.Reading.{LinesArePrinted, WordsAreNoTags, WordsAreSeen};
 ghost use Rattle.bgp_html.specs.Report.{ReportsSayTheSame};
@@ -44,4 +45,11 @@ pub fn reports_say_the_same()
 /// word for word and in their order, and nothing else.
 pub fn notes_are_lines()
     ensures { NotesAreLines }
+{}
+
+/// The lines of a report stand in elements in their order, each once: one alone, or several that
+/// are indented, at most 100; and no line that could stand with those before it begins an element.
+/// There is one way to do so.
+pub fn lines_stand_together()
+    ensures { LinesStandTogether }
 {}

@@ -20,10 +20,10 @@ mod tag;
 pub use escaped::put_escaped;
 pub use escaping::Escaping;
 pub use laws::{
-    escaped_text_is_no_markup, escaped_text_is_that_text_alone, lines_are_printed, notes_are_lines,
-    reports_say_the_same, words_are_no_tags, words_are_seen,
+    escaped_text_is_no_markup, escaped_text_is_that_text_alone, lines_are_printed,
+    lines_stand_together, notes_are_lines, reports_say_the_same, words_are_no_tags, words_are_seen,
 };
 pub use notes::Notes;
-pub use printed::Kind;
+pub use printed::{Element, Kind};
 pub use report::Report;
 pub use tag::{Column, Mark, Tag, What, put_tag};

@@ -104,13 +104,14 @@ fn put_style_6<W: Sink>(lines: &mut Lines<'_, W>)
     lines.put(b".run{color:var(--pale);font-style:italic}.run div{border-style:none}\n");
     lines.put(b".could{color:var(--ink)}.could div{border:1px dashed;margin:.1rem 2rem}\n");
     lines.put(b"@media screen{body{display:flex;flex-direction:column}\n");
-    lines.put(b"details[open]{content-visibility:auto;contain-intrinsic-height:auto 60rem}\n");
+    lines.put(b"details[open]{content-visibility:auto;contain-intrinsic-height:auto 20rem}\n");
 }
 
 /// Puts a part of the style sheet.
 fn put_style_7<W: Sink>(lines: &mut Lines<'_, W>)
     ensures { Writes lines.old lines.new style_7 }
 {
+    lines.put(b"pre+pre samp{content-visibility:auto;contain-intrinsic-height:auto 127.5rem}\n");
     lines.put(b"h1{order:-3}body>.about{order:-2}body>.about~.about{order:1}.sum{order:-1}}\n");
     lines.put(b"@media print,(max-width:60rem){td:nth-last-child(3),td:last-child{width:6rem}\n");
     lines.put(b"td:first-child{white-space:normal;min-width:6.5rem}.could div{margin:.1rem}}\n");

@@ -2,8 +2,10 @@
 
 ghost use Rattle.std.specs.Prelude.{◌≡◌};
 ghost use Rattle.bgp_text.specs.Lines.{Writes};
-ghost use Rattle.bgp_html.specs.Kinds.{kind_of};
-ghost use Rattle.bgp_html.specs.Printed.{begun_html, kind_end, kind_start, printed_html};
+ghost use Rattle.bgp_html.specs.Kinds.{is_indented, kind_of};
+ghost use Rattle.bgp_html.specs.Printed.{kind_end, kind_start};
+ghost use Rattle.bgp_html.specs.Taking.{Front, begun_html, between, count_with, end_html, joins};
+ghost use Rattle.bgp_html.specs.Taking.{line_end, line_html, open_behind, open_end};
 
 use crate::escaped::put_escaped;
 use bgp_text::Lines;
@@ -30,6 +32,38 @@ pub enum Kind {
     Whole,
     /// How many answers there are of each kind.
     Totals,
+}
+
+/// An element that is open.
+#[derive(Clone, Copy, Debug, PartialEq, Eq)]
+pub enum Element {
+    /// A line that says this has begun: it is the last of so many.
+    Line(Kind, usize),
+    /// So many lines stand in it, and the next can stand there, too.
+    Lines(usize),
+}
+
+/// How many lines an element has at most: a browser draws none of those in an element that isn't
+/// shown, and all of those in one that is.
+const MOST_LINES: usize = 100;
+
+/// Checks whether lines of this kind are indented.
+fn is_indented(kind: Kind) -> bool
+    ensures { result ≡ is_indented kind }
+{
+    match kind {
+        Kind::Possible | Kind::Beside => true,
+        Kind::Connection | Kind::Yes | Kind::No | Kind::Unfinished => false,
+        Kind::NotJudged | Kind::Whole | Kind::Totals => false,
+    }
+}
+
+/// Checks whether a line of this kind stands in the element of so many lines before it: one that is
+/// open, or none.
+fn joins(count: usize, kind: Kind) -> bool
+    ensures { result ≡ joins count kind }
+{
+    0 < count && count < MOST_LINES && is_indented(kind)
 }
 
 /// Puts the start of an element for lines of this kind.
@@ -89,21 +123,79 @@ pub(crate) fn kind_of(front: &[u8]) -> Kind
     }
 }
 
-/// Puts the start of an element for a line that begins so, and that beginning.
-pub(crate) fn put_begun<W: Sink>(lines: &mut Lines<'_, W>, front: &[u8])
-    ensures { Writes lines.old lines.new (begun_html front.now) }
+/// Puts the end of an element of so many lines, if one is open.
+fn put_open_end<W: Sink>(lines: &mut Lines<'_, W>, count: usize)
+    ensures { Writes lines.old lines.new (open_end count) }
 {
-    put_start(lines, kind_of(front));
+    if count != 0 {
+        put_end(lines, Kind::Beside);
+    }
+}
+
+/// Puts what stands between these lines and one of this kind.
+fn put_between<W: Sink>(lines: &mut Lines<'_, W>, count: usize, kind: Kind)
+    ensures { Writes lines.old lines.new (between count kind) }
+{
+    if !joins(count, kind) {
+        put_open_end(lines, count);
+        put_start(lines, kind);
+    }
+}
+
+/// Returns how many lines the element has in which a line of this kind stands, behind so many.
+pub(crate) fn count_with(count: usize, kind: Kind) -> usize
+    ensures { result ≡ count_with count kind }
+{
+    if joins(count, kind) { count + 1 } else { 1 }
+}
+
+/// Puts the front of a line of this kind behind so many lines: in their element or in one of its
+/// own.
+pub(crate) fn put_begun<W: Sink>(lines: &mut Lines<'_, W>, count: usize, kind: Kind, front: &[u8])
+    ensures { Writes lines.old lines.new (begun_html count kind front.now) }
+{
+    put_between(lines, count, kind);
     put_escaped(lines, front);
 }
 
-/// Puts a line in an element of its own, or nothing if it is empty.
-pub(crate) fn put_line<W: Sink>(lines: &mut Lines<'_, W>, line: &[u8])
-    ensures { Writes lines.old lines.new (printed_html (kind_of line.now) line.now) }
+/// Puts what stands behind a line of this kind: more lines can stand with one that is indented.
+pub(crate) fn put_line_end<W: Sink>(lines: &mut Lines<'_, W>, kind: Kind)
+    ensures { Writes lines.old lines.new (line_end kind) }
 {
-    if line.is_empty() {
+    if !is_indented(kind) {
+        put_end(lines, kind);
+    }
+}
+
+/// Puts a line of this kind behind so many lines.
+pub(crate) fn put_line<W: Sink>(lines: &mut Lines<'_, W>, count: usize, kind: Kind, line: &[u8])
+    ensures { Writes lines.old lines.new (line_html count kind line.now) }
+{
+    put_begun(lines, count, kind, line);
+    put_line_end(lines, kind);
+}
+
+/// Returns the element that is open behind a line of this kind, the last of so many.
+pub(crate) fn open_behind(kind: Kind, count: usize) -> Option<Element>
+    ensures { result ≡ open_behind kind count }
+{
+    if is_indented(kind) {
+        Some(Element::Lines(count))
+    } else {
+        None
+    }
+}
+
+/// Puts the front of the last line behind so many lines, if it isn't empty, and the end of the
+/// element.
+pub(crate) fn put_last<W: Sink>(lines: &mut Lines<'_, W>, count: usize, front: &[u8])
+    ensures { Writes lines.old lines.new (end_html (Front count front.now)) }
+{
+    if front.is_empty() {
+        put_open_end(lines, count);
         return;
     }
-    put_begun(lines, line);
-    put_end(lines, kind_of(line));
+    let kind = kind_of(front);
+    put_begun(lines, count, kind, front);
+    put_end(lines, kind);
 }

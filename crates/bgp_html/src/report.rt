@@ -6,12 +6,17 @@ ghost use Rattle.bgp_html.specs.Noted.{nothing_noted};
 ghost use Rattle.bgp_html.specs.Notes.{IsNotedBy, noted_by};
 ghost use Rattle.bgp_html.specs.Pieces.{html_of};
 ghost use Rattle.bgp_html.specs.Report.{head_pieces};
-ghost use Rattle.bgp_html.specs.Taking.{HasNoEnd, Puts, end_html, end_notes, first_end, place_of};
+ghost use Rattle.bgp_html.specs.Taking.{Front, HasNoEnd, Puts, end_html, end_notes, first_end};
+ghost use Rattle.bgp_html.specs.Taking.{place_of};
+ghost use Rattle.bgp_html.specs.declared.printed.Element.TheVariants.{Line};
 
 use crate::escaped::put_escaped;
 use crate::head::put_head;
 use crate::notes::Notes;
-use crate::printed::{Kind, kind_of, put_begun, put_end, put_line};
+use crate::printed::{
+    Element, Kind, count_with, kind_of, open_behind, put_begun, put_end, put_last, put_line,
+    put_line_end,
+};
 use arrayvec::ArrayVec;
 use bgp_text::Lines;
 use memchr::memchr;
@@ -22,15 +27,15 @@ use std::alloc::Allocator;
 const FRONT: usize = 4;
 
 /// A report on its way to a sink. It is a sink, too: it takes what `bgp check` prints, and puts
-/// each line into an element of its own, by what the line says. It notes what could have come,
-/// answer by answer. It never fails: if the sink behind it does, the lines tell of that.
+/// its lines into elements by what they say: lines that are indented together, as far as they follow
+/// each other, and each other line by itself. It notes what could have come, answer by answer. It never fails: if the sink behind it does, the lines tell of that.
 #[derive(Drop)]
 pub struct Report<'a, A: Allocator, W: Sink> {
     lines: Lines<'a, W>,
     notes: Notes<A>,
-    /// What the line says that has begun, if that is known.
-    kind: Option<Kind>,
-    /// The front of the line, until it is.
+    /// The element that is open, if one is.
+    element: Option<Element>,
+    /// The front of a line of which it isn't known yet what it says.
     front: ArrayVec<u8, FRONT>,
     ghost short: { length front.items ≤ 3 },
 }
@@ -54,7 +59,7 @@ impl<'a, A: Allocator + Copy, W: Sink> Report<'a, A, W> {
         ensures now { result.lines.outlet.sink.now ≡ sink.old }
         ensures fresh { IsFalse result.lines.outlet.has_failed }
         ensures empty { result.lines.held.items ≡ [] }
-        ensures kind { result.kind ≡ None }
+        ensures element { result.element ≡ None }
         ensures front { result.front.items ≡ [] }
         ensures noted { noted_by result.notes ≡ nothing_noted }
         ensures none { IsFalse result.notes.are_missing }
@@ -62,7 +67,7 @@ impl<'a, A: Allocator + Copy, W: Sink> Report<'a, A, W> {
         Report {
             lines: Lines::new(sink),
             notes: Notes::new(alloc),
-            kind: None,
+            element: None,
             front: ArrayVec::new(),
         }
     }
@@ -72,7 +77,7 @@ impl<'a, A: Allocator + Copy, W: Sink> Report<'a, A, W> {
     /// U+FFFD.
     pub fn put_head(&mut self, name: &[u8])
         ensures writes { Writes self.old.lines self.new.lines (html_of (head_pieces name.now)) }
-        ensures kind { self.new.kind ≡ self.old.kind }
+        ensures element { self.new.element ≡ self.old.element }
         ensures front { self.new.front.items ≡ self.old.front.items }
         ensures notes { self.new.notes ≡ self.old.notes }
     {
@@ -82,17 +87,14 @@ impl<'a, A: Allocator + Copy, W: Sink> Report<'a, A, W> {
     /// Puts what is left at the end of the text: the last line, if it has no line feed.
     pub fn end(&mut self)
         ensures writes { Writes self.old.lines self.new.lines
-            (end_html (place_of self.old.kind self.old.front.items)) }
+            (end_html (place_of self.old.element self.old.front.items)) }
         ensures noted { IsNotedBy self.old.notes self.new.notes
-            (end_notes (place_of self.old.kind self.old.front.items)) }
+            (end_notes (place_of self.old.element self.old.front.items)) }
     {
-        match self.kind {
-            None => {
-                put_line(&mut self.lines, self.front.as_slice());
-                self.notes
-                    .add_line(kind_of(self.front.as_slice()), self.front.as_slice());
-            }
-            Some(kind) => put_end(&mut self.lines, kind),
+        match self.element {
+            None => self.end_front(0),
+            Some(Element::Lines(count)) => self.end_front(count),
+            Some(Element::Line(kind, _)) => put_end(&mut self.lines, kind),
         }
     }
 
@@ -105,69 +107,84 @@ impl<'a, A: Allocator + Copy, W: Sink> Report<'a, A, W> {
         (self.lines, self.notes)
     }
 
-    /// Puts an octet at the front of a line.
-    fn put_front(&mut self, octet: u8)
-        requires { self.old.kind ≡ None }
-        ensures { Puts self.old.lines self.new.lines self.old.kind self.new.kind
+    /// Puts the front of the last line, behind so many lines, or nothing if it is empty; and the end
+    /// of the element.
+    fn end_front(&mut self, count: usize)
+        ensures writes { Writes self.old.lines self.new.lines
+            (end_html (Front count self.old.front.items)) }
+        ensures noted { IsNotedBy self.old.notes self.new.notes
+            (end_notes (Front count self.old.front.items)) }
+    {
+        let front = self.front.as_slice();
+        put_last(&mut self.lines, count, front);
+        self.notes.add_line(kind_of(front), front);
+    }
+
+    /// Puts an octet at the front of a line, behind so many lines.
+    fn put_front(&mut self, count: usize, octet: u8)
+        requires { place_of self.old.element self.old.front.items
+            ≡ Front count self.old.front.items }
+        ensures { Puts self.old.lines self.new.lines self.old.element self.new.element
             self.old.front.items self.new.front.items self.old.notes self.new.notes (octet ∷ []) }
     {
         let is_known = self.front.len() == FRONT - 1;
         self.front.push(octet);
         let kind = kind_of(self.front.as_slice());
         if octet == b'\n' {
-            put_line(&mut self.lines, self.front.as_slice());
+            put_line(&mut self.lines, count, kind, self.front.as_slice());
             self.notes.add_line(kind, self.front.as_slice());
+            self.element = open_behind(kind, count_with(count, kind));
             self.front.clear();
         } else if is_known {
-            put_begun(&mut self.lines, self.front.as_slice());
+            put_begun(&mut self.lines, count, kind, self.front.as_slice());
             self.notes.add_line(kind, self.front.as_slice());
-            self.kind = Some(kind);
+            self.element = Some(Element::Line(kind, count_with(count, kind)));
             self.front.clear();
         }
     }
 
     /// Puts octets of a line that says this: they don't end it.
-    fn put_rest(&mut self, kind: Kind, octets: &[u8])
-        requires kind { self.old.kind ≡ Some kind }
+    fn put_rest(&mut self, kind: Kind, count: usize, octets: &[u8])
+        requires element { self.old.element ≡ Some (Line kind count) }
         requires none { HasNoEnd octets.now }
-        ensures puts { Puts self.old.lines self.new.lines self.old.kind self.new.kind
+        ensures puts { Puts self.old.lines self.new.lines self.old.element self.new.element
             self.old.front.items self.new.front.items self.old.notes self.new.notes octets.now }
-        ensures kind { self.new.kind ≡ Some kind }
+        ensures element { self.new.element ≡ Some (Line kind count) }
     {
         put_escaped(&mut self.lines, octets);
         self.notes.add_rest(kind, octets);
     }
 
     /// Puts the end of a line that says this.
-    fn end_line(&mut self, kind: Kind)
-        requires { self.old.kind ≡ Some kind }
-        ensures { Puts self.old.lines self.new.lines self.old.kind self.new.kind
+    fn end_line(&mut self, kind: Kind, count: usize)
+        requires { self.old.element ≡ Some (Line kind count) }
+        ensures { Puts self.old.lines self.new.lines self.old.element self.new.element
             self.old.front.items self.new.front.items self.old.notes self.new.notes (10 ∷ []) }
     {
         put_escaped(&mut self.lines, b"\n");
-        put_end(&mut self.lines, kind);
+        put_line_end(&mut self.lines, kind);
         self.notes.add_rest(kind, b"\n");
-        self.kind = None;
+        self.element = open_behind(kind, count);
         self.front.clear();
     }
 
     /// Puts octets of a line that says this, and its end if that is among them. Returns how many.
-    fn put_within(&mut self, kind: Kind, octets: &[u8]) -> usize
-        requires kind { self.old.kind ≡ Some kind }
+    fn put_within(&mut self, kind: Kind, count: usize, octets: &[u8]) -> usize
+        requires element { self.old.element ≡ Some (Line kind count) }
         requires some { 0 < length octets.now }
         ensures some { 0 < result }
         ensures within { result ≤ length octets.now }
-        ensures puts { Puts self.old.lines self.new.lines self.old.kind self.new.kind
+        ensures puts { Puts self.old.lines self.new.lines self.old.element self.new.element
             self.old.front.items self.new.front.items self.old.notes self.new.notes
             (take result octets.now) }
     {
-        let count = first_end(octets);
-        self.put_rest(kind, octets.split_at(count).0);
-        if count == octets.len() {
-            count
+        let end = first_end(octets);
+        self.put_rest(kind, count, octets.split_at(end).0);
+        if end == octets.len() {
+            end
         } else {
-            self.end_line(kind);
-            count + 1
+            self.end_line(kind, count);
+            end + 1
         }
     }
 
@@ -176,22 +193,26 @@ impl<'a, A: Allocator + Copy, W: Sink> Report<'a, A, W> {
         requires { 0 < length octets.now }
         ensures some { 0 < result }
         ensures within { result ≤ length octets.now }
-        ensures puts { Puts self.old.lines self.new.lines self.old.kind self.new.kind
+        ensures puts { Puts self.old.lines self.new.lines self.old.element self.new.element
             self.old.front.items self.new.front.items self.old.notes self.new.notes
             (take result octets.now) }
     {
-        match self.kind {
+        match self.element {
             None => {
-                self.put_front(octets[0]);
+                self.put_front(0, octets[0]);
                 1
             }
-            Some(kind) => self.put_within(kind, octets),
+            Some(Element::Lines(count)) => {
+                self.put_front(count, octets[0]);
+                1
+            }
+            Some(Element::Line(kind, count)) => self.put_within(kind, count, octets),
         }
     }
 
     /// Puts octets.
     fn put(&mut self, octets: &[u8])
-        ensures { Puts self.old.lines self.new.lines self.old.kind self.new.kind
+        ensures { Puts self.old.lines self.new.lines self.old.element self.new.element
             self.old.front.items self.new.front.items self.old.notes self.new.notes octets.now }
     {
         let mut rest = octets;
@@ -205,15 +226,16 @@ impl<'a, A: Allocator + Copy, W: Sink> Report<'a, A, W> {
 impl<A: Allocator + Copy, W: Sink> Sink for Report<'_, A, W> {
     ghost use Rattle.bgp_html.specs.Taking.{Puts, puts_joined, puts_nothing};
 
-    ghost takes = { λ a b. Puts a.lines b.lines a.kind b.kind a.front.items b.front.items
+    ghost takes = { λ a b. Puts a.lines b.lines a.element b.element a.front.items b.front.items
         a.notes b.notes };
 
     ghost failures = { λ a. 0 };
 
-    ghost nothing = { λ a. puts_nothing W.nothing a.lines a.kind a.front.items a.notes };
+    ghost nothing = { λ a. puts_nothing W.nothing a.lines a.element a.front.items a.notes };
 
-    ghost joined = { λ a b c. puts_joined W.joined a.lines b.lines c.lines a.kind b.kind c.kind
-        a.front.items b.front.items c.front.items a.notes b.notes c.notes };
+    ghost joined = { λ a b c. puts_joined W.joined a.lines b.lines c.lines
+        a.element b.element c.element a.front.items b.front.items c.front.items
+        a.notes b.notes c.notes };
 
     fn write(&mut self, octets: &[u8]) -> Result<usize, Failed> {
         self.put(octets);

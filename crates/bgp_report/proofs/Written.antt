@@ -10,7 +10,7 @@ use Rattle.bgp_html.specs.Pieces.{Piece, html_of, printed_of}
 use Rattle.bgp_html.specs.Report.{head_pieces, report_html}
 use Rattle.bgp_html.specs.Taking.{Puts, end_html, place_of}
 use Rattle.bgp_html.specs.declared.notes.Notes.{Notes}
-use Rattle.bgp_html.specs.declared.printed.Kind.{Kind}
+use Rattle.bgp_html.specs.declared.printed.Element.{Element}
 use Rattle.bgp_html.proofs.Reported.{put_lines, reported}
 use Rattle.bgp_check_tool.specs.Marks.{AddsMarks}
 use Rattle.bgp_check_tool.specs.declared.marks.BothMarks.{BothMarks}
@@ -22,9 +22,9 @@ use Rattle.bgp_report.specs.Report.{PutsReport, Reports}
 
 -- the head, then what is taken and its end, and then what stands behind it
 module _ {W : Type 0} {sink : sinks.Ghosts W} {Y : Type 0} (law : Joins sink) (name : List ℕ) (Prints : List ℕ → ℕ → List Piece → Type 0) (a b c d e f : Lines W sink) (old new : W)
-    (kind kind' : Option Kind) (front front' : List ℕ) (notes notes' : Notes Y) (code status : ℕ) where
-  pub written_report : IsFresh a → a.outlet.sink.now ≡ old → new ≡ f.outlet.sink.now → kind ≡ None → front ≡ [] → Writes a b (html_of (head_pieces name))
-      → (text : List ℕ) → Puts b c kind kind' front front' notes notes' text → Writes c d (end_html (place_of kind' front'))
+    (element element' : Option Element) (front front' : List ℕ) (notes notes' : Notes Y) (code status : ℕ) where
+  pub written_report : IsFresh a → a.outlet.sink.now ≡ old → new ≡ f.outlet.sink.now → element ≡ None → front ≡ [] → Writes a b (html_of (head_pieces name))
+      → (text : List ℕ) → Puts b c element element' front front' notes notes' text → Writes c d (end_html (place_of element' front'))
       → (behind : List Piece) → printed_of behind ≡ [] → Writes d e (html_of behind) → Prints text code behind → Writes e f [] → f.held.items ≡ []
       → (IsFalse f.outlet.has_failed × (status ≡ code)) ⊎ (IsTrue f.outlet.has_failed × (status ≡ 5)) → Reports sink.takes sink.failures name Prints old new status
   written_report fresh first last none empty head text took end behind silent put prints handed nothing told = record {
@@ -35,15 +35,15 @@ module _ {W : Type 0} {sink : sinks.Ghosts W} {Y : Type 0} (law : Joins sink) (n
     no_lines = silent;
     written = is_written a f old new fresh first last (report_html name text behind) code status
         (and_nothing law (subst (λ (t : List ℕ). Writes a e t) (reported name text behind)
-        (and_then law (and_then law head (put_lines law b c d kind kind' front front' notes notes' text none empty took end)) put)) handed)
+        (and_then law (and_then law head (put_lines law b c d element element' front front' notes notes' text none empty took end)) put)) handed)
         nothing told;
   }
 
 -- the same, of lines that stay
 module _ {W : Type 0} {sink : sinks.Ghosts W} {Y : Type 0} (law : Joins sink) (name : List ℕ) (Prints : List ℕ → ℕ → List Piece → Type 0) (a b c d e : Lines W sink)
-    (kind kind' : Option Kind) (front front' : List ℕ) (notes notes' : Notes Y) (code : ℕ) where
-  pub put_whole : kind ≡ None → front ≡ [] → Writes a b (html_of (head_pieces name)) → (text : List ℕ) → Puts b c kind kind' front front' notes notes' text
-      → Writes c d (end_html (place_of kind' front')) → (behind : List Piece) → printed_of behind ≡ [] → Writes d e (html_of behind) → Prints text code behind
+    (element element' : Option Element) (front front' : List ℕ) (notes notes' : Notes Y) (code : ℕ) where
+  pub put_whole : element ≡ None → front ≡ [] → Writes a b (html_of (head_pieces name)) → (text : List ℕ) → Puts b c element element' front front' notes notes' text
+      → Writes c d (end_html (place_of element' front')) → (behind : List Piece) → printed_of behind ≡ [] → Writes d e (html_of behind) → Prints text code behind
       → PutsReport name Prints code a e
   put_whole none empty head text took end behind silent put prints = record {
     text = text;
@@ -51,7 +51,7 @@ module _ {W : Type 0} {sink : sinks.Ghosts W} {Y : Type 0} (law : Joins sink) (n
     prints = prints;
     no_lines = silent;
     written = subst (λ (t : List ℕ). Writes a e t) (reported name text behind)
-        (and_then law (and_then law head (put_lines law b c d kind kind' front front' notes notes' text none empty took end)) put);
+        (and_then law (and_then law head (put_lines law b c d element element' front front' notes notes' text none empty took end)) put);
   }
 
 -- and these were handed over

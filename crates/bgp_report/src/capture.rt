@@ -47,7 +47,7 @@ fn put_report<'a, A: Allocator + Copy, T: Tracker<A>, W: Sink>(
     report: Report<'a, A, W>,
 ) -> (CheckedCapture, Lines<'a, W>)
     requires form { options.now.form ≡ Text }
-    requires kind { report.kind ≡ None }
+    requires element { report.element ≡ None }
     requires front { report.front.items ≡ [] }
     requires noted { noted_by report.notes ≡ nothing_noted }
     ensures no { PutsReport name.now (Beside (λ (text : List ℕ) (code : ℕ).

@@ -49,7 +49,7 @@ fn put_report<'a, A: Allocator + Copy, T: Tracker<A>, R: Source, W: Sink>(
 ) -> (CheckedRecording, Lines<'a, W>)
     requires source { R.failures source.old < 2 ^ 63 }
     requires form { options.now.form ≡ Text }
-    requires kind { report.kind ≡ None }
+    requires element { report.element ≡ None }
     requires front { report.front.items ≡ [] }
     requires noted { noted_by report.notes ≡ nothing_noted }
     ensures no { PutsReport name.now (Beside (λ (text : List ℕ) (code : ℕ).

@@ -26,17 +26,17 @@ returns-clause-no g c =
     let marked = c.check_marking-checked.ensures.all in
     let all = marks_of c.args.options.now.printing marked.checks.blocks in
     let took = printed_of _ from to _ _ g.R.Source.failures _ _ _ _ _ _ c.check_marking-checked.ensures.no c.requires.form in
-    let kind = c.put_head.ensures.kind ∙ c.requires.kind in
+    let element = c.put_head.ensures.element ∙ c.requires.element in
     let front = c.put_head.ensures.front ∙ c.requires.front in
     let fresh : noted_by from.notes ≡ nothing_noted = ap (λ (n : Notes _). noted_by n) c.put_head.ensures.notes ∙ c.requires.noted in
     let noted = subst (λ (n : Notes _). AreNotes took.0 n) (sym c.into_parts-lines.ensures.notes)
-    (noted_lines from.lines to.lines from.kind to.kind from.front.items to.front.items from.notes to.notes c.end.new.self.notes took.0 kind front fresh took.1 c.end.ensures.noted) in
+    (noted_lines from.lines to.lines from.element to.element from.front.items to.front.items from.notes to.notes c.end.new.self.notes took.0 element front fresh took.1 c.end.ensures.noted) in
     let put = c.put_ladders.ensures c.args.options.now.port marked.checks.packets took.0 all marked.held noted
     (all_marks c.new-marks.result c.check_marking-checked.new.marks all marked.marked c.new-marks.ensures.both) in
     let ends = rw (← c.into_parts-lines.ensures.lines) at c.end.ensures.writes in
     put_whole law c.args.name.now _ begun.lines from.lines to.lines loose c.put_ladders.new.lines
-    from.kind to.kind from.front.items to.front.items from.notes to.notes c.check_marking-checked.result.status
-    kind front head
+    from.element to.element from.front.items to.front.items from.notes to.notes c.check_marking-checked.result.status
+    element front head
     took.0 took.1 ends put.0 put.2 put.3 took.2
 
 pub returns-clause-yes : goal.returns-clause-yes
@@ -50,17 +50,17 @@ returns-clause-yes g c =
     let marked = c.check_marking-checked.ensures.all in
     let all = marks_of c.args.options.now.printing marked.checks.blocks in
     let took = printed_of _ from to _ _ g.R.Source.failures _ _ _ _ _ _ c.check_marking-checked.ensures.yes c.requires.form in
-    let kind = c.put_head.ensures.kind ∙ c.requires.kind in
+    let element = c.put_head.ensures.element ∙ c.requires.element in
     let front = c.put_head.ensures.front ∙ c.requires.front in
     let fresh : noted_by from.notes ≡ nothing_noted = ap (λ (n : Notes _). noted_by n) c.put_head.ensures.notes ∙ c.requires.noted in
     let noted = subst (λ (n : Notes _). AreNotes took.0 n) (sym c.into_parts-lines.ensures.notes)
-    (noted_lines from.lines to.lines from.kind to.kind from.front.items to.front.items from.notes to.notes c.end.new.self.notes took.0 kind front fresh took.1 c.end.ensures.noted) in
+    (noted_lines from.lines to.lines from.element to.element from.front.items to.front.items from.notes to.notes c.end.new.self.notes took.0 element front fresh took.1 c.end.ensures.noted) in
     let put = c.put_ladders.ensures c.args.options.now.port marked.checks.packets took.0 all marked.held noted
     (all_marks c.new-marks.result c.check_marking-checked.new.marks all marked.marked c.new-marks.ensures.both) in
     let ends = rw (← c.into_parts-lines.ensures.lines) at c.end.ensures.writes in
     put_whole law c.args.name.now _ begun.lines from.lines to.lines loose c.put_ladders.new.lines
-    from.kind to.kind from.front.items to.front.items from.notes to.notes c.check_marking-checked.result.status
-    kind front head
+    from.element to.element from.front.items to.front.items from.notes to.notes c.check_marking-checked.result.status
+    element front head
     took.0 took.1 ends put.0 put.2 put.3 took.2
 
 pub returns-clause-unfinished : goal.returns-clause-unfinished
@@ -74,17 +74,17 @@ returns-clause-unfinished g c =
     let marked = c.check_marking-checked.ensures.all in
     let all = marks_of c.args.options.now.printing marked.checks.blocks in
     let took = printed_of _ from to _ _ g.R.Source.failures _ _ _ _ _ _ c.check_marking-checked.ensures.unfinished c.requires.form in
-    let kind = c.put_head.ensures.kind ∙ c.requires.kind in
+    let element = c.put_head.ensures.element ∙ c.requires.element in
     let front = c.put_head.ensures.front ∙ c.requires.front in
     let fresh : noted_by from.notes ≡ nothing_noted = ap (λ (n : Notes _). noted_by n) c.put_head.ensures.notes ∙ c.requires.noted in
     let noted = subst (λ (n : Notes _). AreNotes took.0 n) (sym c.into_parts-lines.ensures.notes)
-    (noted_lines from.lines to.lines from.kind to.kind from.front.items to.front.items from.notes to.notes c.end.new.self.notes took.0 kind front fresh took.1 c.end.ensures.noted) in
+    (noted_lines from.lines to.lines from.element to.element from.front.items to.front.items from.notes to.notes c.end.new.self.notes took.0 element front fresh took.1 c.end.ensures.noted) in
     let put = c.put_ladders.ensures c.args.options.now.port marked.checks.packets took.0 all marked.held noted
     (all_marks c.new-marks.result c.check_marking-checked.new.marks all marked.marked c.new-marks.ensures.both) in
     let ends = rw (← c.into_parts-lines.ensures.lines) at c.end.ensures.writes in
     put_whole law c.args.name.now _ begun.lines from.lines to.lines loose c.put_ladders.new.lines
-    from.kind to.kind from.front.items to.front.items from.notes to.notes c.check_marking-checked.result.status
-    kind front head
+    from.element to.element from.front.items to.front.items from.notes to.notes c.check_marking-checked.result.status
+    element front head
     took.0 took.1 ends put.0 put.2 put.3 took.2
 
 pub returns-clause-all : goal.returns-clause-all
@@ -98,15 +98,15 @@ returns-clause-all g c =
     let marked = c.check_marking-checked.ensures.all in
     let all = marks_of c.args.options.now.printing marked.checks.blocks in
     let took = laddered_of _ from to _ _ g.R.Source.failures _ _ _ _ _ _ _ _ _ _ _ marked c.requires.form in
-    let kind = c.put_head.ensures.kind ∙ c.requires.kind in
+    let element = c.put_head.ensures.element ∙ c.requires.element in
     let front = c.put_head.ensures.front ∙ c.requires.front in
     let fresh : noted_by from.notes ≡ nothing_noted = ap (λ (n : Notes _). noted_by n) c.put_head.ensures.notes ∙ c.requires.noted in
     let noted = subst (λ (n : Notes _). AreNotes took.0 n) (sym c.into_parts-lines.ensures.notes)
-    (noted_lines from.lines to.lines from.kind to.kind from.front.items to.front.items from.notes to.notes c.end.new.self.notes took.0 kind front fresh took.1 c.end.ensures.noted) in
+    (noted_lines from.lines to.lines from.element to.element from.front.items to.front.items from.notes to.notes c.end.new.self.notes took.0 element front fresh took.1 c.end.ensures.noted) in
     let put = c.put_ladders.ensures c.args.options.now.port marked.checks.packets took.0 all marked.held noted
     (all_marks c.new-marks.result c.check_marking-checked.new.marks all marked.marked c.new-marks.ensures.both) in
     let ends = rw (← c.into_parts-lines.ensures.lines) at c.end.ensures.writes in
     put_whole law c.args.name.now _ begun.lines from.lines to.lines loose c.put_ladders.new.lines
-    from.kind to.kind from.front.items to.front.items from.notes to.notes c.check_marking-checked.result.status
-    kind front head
+    from.element to.element from.front.items to.front.items from.notes to.notes c.check_marking-checked.result.status
+    element front head
     took.0 took.1 ends put.0 put.2 put.3 (took.2 put.0 put.1)

@@ -6,7 +6,7 @@ use Rattle.bgp_html.proofs.report.Report.put.Given as goal
 abbrev pub invariant-loop-rest : goal.invariant-loop-rest
 invariant-loop-rest g l =
     (front : List ℕ) × (l.octets ≡ front ++ l.rest)
-    × Puts l.fn.self.lines l.self.lines l.fn.self.kind l.self.kind l.fn.self.front.items l.self.front.items l.fn.self.notes l.self.notes front
+    × Puts l.fn.self.lines l.self.lines l.fn.self.element l.self.element l.fn.self.front.items l.self.front.items l.fn.self.notes l.self.notes front
 
 abbrev pub decreases-loop-rest : goal.decreases-loop-rest
 decreases-loop-rest g l = length l.rest
