@@ -6,7 +6,7 @@ pub returns : goal.returns
 unfolding optional_text
 returns g c =
     let law : Joins g.W.Sink = record { joined = g.met.W.Sink.joined } in
-    let communities = rw c.as_slice.ensures.values at c.put_communities.ensures in
+    let communities = rw c.as_slice.ensures.numbers at c.put_communities.ensures in
     let extended = rw c.as_slice-2.ensures.values at c.put_extended.ensures in
     let large = rw c.as_slice-3.ensures.values at c.put_large.ensures in
     let clusters = rw c.as_slice-4.ensures.values at c.put_clusters.ensures in
