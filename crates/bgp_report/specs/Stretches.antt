@@ -1,11 +1,10 @@
 -- What stands after the text of a report on an MRT file: the records of each stretch that is
 -- judged.
-use Rattle.std.specs.Prelude.{◌≡◌, ◌⊎◌, ◌<◌, ◌+◌, ◌++◌, ◌||◌, ℕ, Bool, true, false, List, [], ◌∷◌}
-use Rattle.std.specs.Prelude.{Option, None, Some, codes, if◌then◌else◌, is_some, length, map, not}
+use Rattle.std.specs.Prelude.{◌≡◌, ◌⊎◌, ◌<◌, ◌+◌, ◌++◌, ◌==◌, ℕ, Bool, List, [], ◌∷◌, codes}
+use Rattle.std.specs.Prelude.{if◌then◌else◌, is_some, length, map}
+use Rattle.std.specs.List.{list_any}
 use Rattle.mrt.specs.Reader.{shown_of}
 use Rattle.mrt.specs.declared.sink.Sink as sinks
-use Rattle.mrt_sessions.specs.Sessions.{are_same}
-use Rattle.mrt_sessions.specs.declared.addresses.Addresses.{Addresses}
 use Rattle.bgp_prefix.specs.Shown.{ShownRecord, second_of}
 use Rattle.bgp_prefix.specs.Text.{address_text}
 use Rattle.bgp_recording.specs.declared.entry.Entry.{Entry}
@@ -95,39 +94,24 @@ IsJudged text is_open count mark pieces =
 abbrev pub has_no : MarkValue → Bool
 has_no mark = is_some mark.no
 
--- it is of the session between these addresses, if there is one
-abbrev pub goes_on : Option Addresses → Addresses → Bool
-goes_on None addresses = false
-goes_on (Some previous) addresses = are_same previous addresses
-
--- one of those that are next in this session has a no
-abbrev pub has_later_no : Addresses → List MarkValue → Bool
-has_later_no addresses [] = false
-has_later_no addresses (mark ∷ marks) =
-    if are_same addresses mark.addresses then has_no mark || has_later_no addresses marks
-    else false
-
--- each with a no, and if its session has none, the first one of that: the session of the one before
--- it and those behind it are given
-abbrev pub stretch_is_open : Option Addresses → MarkValue → List MarkValue → Bool
-stretch_is_open previous mark later =
-    if has_no mark then true else
-    not (goes_on previous mark.addresses || has_later_no mark.addresses later)
+-- of a file with these stretches the one with this number, from 0 on: each with a no is open; if
+-- there is none, the first is
+abbrev pub stretch_is_open : List MarkValue → ℕ → MarkValue → Bool
+stretch_is_open marks number mark = if list_any has_no marks then has_no mark else number == 0
 
 -- ---- one after another
 
--- those of some, before these: so many answers stand before theirs, and each has one
-abbrev pub AreBefore : List ℕ → ℕ → Option Addresses → List MarkValue → List MarkValue → List Piece
-    → Type 0
-AreBefore text count previous [] later pieces = pieces ≡ []
-AreBefore text count previous (mark ∷ marks) later pieces =
-    (one rest : List Piece)
-    × IsJudged text (stretch_is_open previous mark (marks ++ later)) count mark one
-    × AreBefore text (count + 1) (Some mark.addresses) marks later rest × (pieces ≡ one ++ rest)
+module _ (text : List ℕ) (all : List MarkValue) where
+  -- those of some of these, from the one with this number on: so many answers stand before it
+  abbrev pub AreFrom : ℕ → List MarkValue → List Piece → Type 0
+  AreFrom number [] pieces = pieces ≡ []
+  AreFrom number (mark ∷ marks) pieces =
+      (one rest : List Piece) × IsJudged text (stretch_is_open all number mark) number mark one
+      × AreFrom (number + 1) marks rest × (pieces ≡ one ++ rest)
 
--- those of all
-abbrev pub AreStretches : List ℕ → List MarkValue → List Piece → Type 0
-AreStretches text marks pieces = AreBefore text 0 None marks [] pieces
+  -- those of all
+  abbrev pub AreStretches : List Piece → Type 0
+  AreStretches pieces = AreFrom 0 all pieces
 
 -- ---- after the text
 

@@ -1,15 +1,14 @@
 //! The ladders of a report on an MRT file: what stands after its text.
 
 ghost use Rattle.std.specs.Prelude.{◌≡◌, ◌<◌, IsFalse, List, ℕ, map};
-ghost use Rattle.mrt_sessions.specs.Sessions.{are_same};
+ghost use Rattle.std.specs.List.{list_any};
 ghost use Rattle.bgp_text.specs.Lines.{Writes};
 ghost use Rattle.bgp_html.specs.Pieces.{Piece, html_of};
 ghost use Rattle.bgp_check_capture_tool.specs.Marks.{MarkValue, mark_value};
 ghost use Rattle.bgp_report.specs.Notes.{AreNotes};
 ghost use Rattle.bgp_report.specs.Stretches.{AreStretches, IsJudged, IsStretchOrLost};
-ghost use Rattle.bgp_report.specs.Stretches.{PutsStretches, goes_on, has_later_no, has_no};
-ghost use Rattle.bgp_report.specs.Stretches.{lost_pieces, none_pieces, stretch_is_open};
-ghost use Rattle.bgp_report.specs.Stretches.{stretches_pieces};
+ghost use Rattle.bgp_report.specs.Stretches.{PutsStretches, has_no, lost_pieces, none_pieces};
+ghost use Rattle.bgp_report.specs.Stretches.{stretch_is_open, stretches_pieces};
 
 use crate::ladder::put_drawn;
 use crate::ladders::possible_at;
@@ -19,7 +18,6 @@ use bgp_html::{Notes, Tag, put_escaped, put_tag};
 use bgp_ladder::rows_are_not_printed;
 use bgp_text::Lines;
 use mrt::Sink;
-use mrt_sessions::Addresses;
 use std::alloc::{AllocError, Allocator};
 
 /// Checks whether a stretch has a no.
@@ -29,54 +27,25 @@ fn has_no<A: Allocator>(mark: &StretchMark<'_, A>) -> bool
     mark.no.is_some()
 }
 
-/// Checks whether both are the addresses of one session.
-fn are_same(one: Addresses, other: Addresses) -> bool
-    ensures { result ≡ are_same one other }
+/// Checks whether one of these stretches has a no.
+fn some_no<A: Allocator>(marks: &[StretchMark<'_, A>]) -> bool
+    ensures { result ≡ list_any has_no (map mark_value marks.now) }
 {
-    one.cmp(&other).is_eq()
-}
-
-/// Checks whether a stretch is of the session of the one before it.
-fn goes_on(previous: Option<Addresses>, addresses: Addresses) -> bool
-    ensures { result ≡ goes_on previous addresses }
-{
-    match previous {
-        None => false,
-        Some(previous) => are_same(previous, addresses),
-    }
-}
-
-/// Checks whether one of those that are next in this session has a no.
-fn has_later_no<A: Allocator>(addresses: Addresses, marks: &[StretchMark<'_, A>]) -> bool
-    ensures { result ≡ has_later_no addresses (map mark_value marks.now) }
-{
-    for place in 0..marks.len() {
-        if !are_same(addresses, marks[place].addresses) {
-            return false;
-        }
-        if has_no(&marks[place]) {
+    for mark in marks {
+        if has_no(mark) {
             return true;
         }
     }
     false
 }
 
-/// Checks whether the ladder of a stretch is open, before these and behind one of that session: it
-/// has a no, or is the first of a session without one.
-fn is_open<A: Allocator>(
-    previous: Option<Addresses>,
-    mark: &StretchMark<'_, A>,
-    later: &[StretchMark<'_, A>],
-) -> bool
-    ensures { result ≡ stretch_is_open previous (mark_value mark.now) (map mark_value later.now) }
+/// Checks whether the ladder of a stretch with this number is open, in a file of which some stretch
+/// has a no or none has: it has one, or is the first of a file without.
+fn is_open<A: Allocator>(some_no: bool, number: usize, mark: &StretchMark<'_, A>) -> bool
+    ensures { (marks : List MarkValue) → some_no ≡ list_any has_no marks
+        → result ≡ stretch_is_open marks number (mark_value mark.now) }
 {
-    if has_no(mark) {
-        true
-    } else if goes_on(previous, mark.addresses) {
-        false
-    } else {
-        !has_later_no(mark.addresses, later)
-    }
+    if some_no { has_no(mark) } else { number == 0 }
 }
 
 /// Puts that memory was refused for the records of a stretch.
@@ -155,13 +124,11 @@ fn put_each<A: Allocator + Copy, W: Sink>(
         × AreStretches text (map mark_value marks.now) pieces
         × Writes lines.old lines.new (html_of pieces) }
 {
-    let mut previous = None;
+    let some_no = some_no(marks);
     for place in 0..marks.len() {
         let mark = &marks[place];
-        let later = marks.split_at(place + 1).1;
-        let is_open = is_open(previous, mark, later);
+        let is_open = is_open(some_no, place, mark);
         put_judged(alloc, lines, notes, place, mark, is_open);
-        previous = Some(mark.addresses);
     }
 }
 
