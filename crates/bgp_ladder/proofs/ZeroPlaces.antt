@@ -1,5 +1,5 @@
--- Where the first octet 0 stands, and how many there are, by a search.
-use Rattle.std.proofs.Common.{◌≡◌, ◌∙◌, ◌+◌, ◌<◌, ◌==◌, ℕ, zero, suc, Bool, true, false, List, [], ◌∷◌, ap, arith, drop, if◌then◌else◌, length, refl, sym}
+-- Where the first octet 0 stands, by a search, and how many there are.
+use Rattle.std.proofs.Common.{◌≡◌, ◌+◌, ◌<◌, ◌==◌, ℕ, zero, suc, Bool, true, false, List, [], ◌∷◌, arith, drop, if◌then◌else◌, length, refl, take}
 use Rattle.memchr.specs.Find.{Nowhere, Passes, is_byte}
 use Rattle.bgp_ladder.specs.Batch.{first_zero, zeros}
 
@@ -26,28 +26,13 @@ zero_nowhere [] none = refl
 zero_nowhere (x ∷ xs) none =
     none_by x xs (x == 0) refl (none 0 (omega arith) (omega arith)) (zero_nowhere xs (λ j low high. none (suc j) (omega arith) (omega (arith, high))))
 
-after_by : (x : ℕ) (xs behind : List ℕ) (here : Bool) → (x == 0) ≡ here → (¬ (x == 0) ≡ true) → zeros xs ≡ zeros behind + 1
-    → (if here then zeros xs + 1 else zeros xs) ≡ zeros behind + 1
-after_by x xs behind true is other rest = absurd (other is)
-after_by x xs behind false is other rest = rest
+sum_by : (here : Bool) (n m k : ℕ) → n ≡ m + k → (if here then n + 1 else n) ≡ (if here then m + 1 else m) + k
+sum_by true n m k is = omega (arith, is)
+sum_by false n m k is = is
 
--- those behind the first
-pub zeros_after : (octets : List ℕ) (k : ℕ) → k < length octets → Passes (is_byte 0) octets k → Nowhere (Passes (is_byte 0) octets) 0 k
-    → zeros octets ≡ zeros (drop (k + 1) octets) + 1
-zeros_after [] k within is none = absurd (omega (arith, within))
-zeros_after (x ∷ xs) zero within is none = rw is refl
-zeros_after (x ∷ xs) (suc k) within is none =
-    let more : suc k + 1 ≡ suc (k + 1) = omega arith in
-    after_by x xs (drop (k + 1) xs) (x == 0) refl (none 0 (omega arith) (omega arith))
-    (zeros_after xs k (omega (arith, within)) is (λ j low high. none (suc j) (omega arith) (omega (arith, high))))
-    ∙ ap (λ (n : ℕ). zeros (drop n (x ∷ xs)) + 1) (sym more)
-
-nor_by : (x : ℕ) (xs : List ℕ) (here : Bool) → (x == 0) ≡ here → (¬ (x == 0) ≡ true) → zeros xs ≡ 0 → (if here then zeros xs + 1 else zeros xs) ≡ 0
-nor_by x xs true is other rest = absurd (other is)
-nor_by x xs false is other rest = rest
-
--- or there is none
-pub zeros_nowhere : (octets : List ℕ) → Nowhere (Passes (is_byte 0) octets) 0 (length octets) → zeros octets ≡ 0
-zeros_nowhere [] none = refl
-zeros_nowhere (x ∷ xs) none =
-    nor_by x xs (x == 0) refl (none 0 (omega arith) (omega arith)) (zeros_nowhere xs (λ j low high. none (suc j) (omega arith) (omega (arith, high))))
+-- those of a front, and those behind it
+pub zeros_parted : (octets : List ℕ) (k : ℕ) → zeros octets ≡ zeros (take k octets) + zeros (drop k octets)
+zeros_parted [] zero = refl
+zeros_parted [] (suc k) = refl
+zeros_parted (x ∷ xs) zero = omega arith
+zeros_parted (x ∷ xs) (suc k) = sum_by (x == 0) (zeros xs) (zeros (take k xs)) (zeros (drop k xs)) (zeros_parted xs k)

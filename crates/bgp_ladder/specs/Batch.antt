@@ -1,8 +1,9 @@
 -- What the next records show, in words, each with an octet 0 behind them.
 use Rattle.std.specs.Prelude.{◌≡◌, ◌<◌, ◌≤◌, ◌==◌, ◌+◌, ◌-◌, ◌++◌, ℕ, List, [], ◌∷◌}
-use Rattle.std.specs.Prelude.{if◌then◌else◌, length, take}
+use Rattle.std.specs.Prelude.{drop, if◌then◌else◌, length, take}
 use Rattle.bgp_prefix.specs.Shown.{ShownRecord}
 use Rattle.mrt.specs.Reader.{shown_of}
+use Rattle.bgp_html.specs.Escaped.{escaped}
 use Rattle.bgp_lines.specs.Form.{Before, before_behind}
 use Rattle.bgp_recording.specs.declared.entry.Entry.{Entry}
 use Rattle.bgp_recording.specs.declared.framing.Framings.{Framings}
@@ -25,6 +26,11 @@ AreDeeds framings opens (entry ∷ entries) octets =
     (next : Opens) × (text rest : List ℕ) × IsBehind opens (shown_of entry.record) next
     × IsDeedBy framings opens (shown_of entry.record) text × AreDeeds framings next entries rest
     × (octets ≡ text ++ 0 ∷ rest)
+
+-- HTML has each part of these octets as it is
+abbrev pub ArePlain : List ℕ → Type 0
+ArePlain octets =
+    (from count : ℕ) → escaped (take count (drop from octets)) ≡ take count (drop from octets)
 
 -- how many octets 0 there are
 abbrev pub zeros : List ℕ → ℕ

@@ -43,28 +43,32 @@ head_pieces column numbering caption left right =
 
 -- ---- a row
 
--- how many microseconds the first moment is before the other, each a second and a fraction of it
-abbrev pub micros_between : ℕ → ℕ → ℕ → ℕ → ℕ
-micros_between first from second to = (second * 1000000 + to) - (first * 1000000 + from)
-
 -- the last six digits of microseconds
 abbrev pub fraction_words : ℕ → List ℕ
 fraction_words micros =
     46 ∷ (48 + micros / 100000 % 10) ∷ (48 + micros / 10000 % 10) ∷ (48 + micros / 1000 % 10)
     ∷ (48 + micros / 100 % 10) ∷ (48 + micros / 10 % 10) ∷ (48 + micros % 10) ∷ []
 
-abbrev pub precise_words : ℕ → List ℕ
-precise_words micros =
-    codes "+" ++ (decimal (micros / 1000000) ++ (fraction_words micros ++ codes " s"))
+abbrev pub micros_words : ℕ → List ℕ
+micros_words micros = decimal (micros / 1000000) ++ (fraction_words micros ++ codes " s")
 
-abbrev pub whole_words : ℕ → ℕ → List ℕ
-whole_words first second = codes "+" ++ (decimal (second - first) ++ codes " s")
+abbrev pub seconds_words : ℕ → List ℕ
+seconds_words seconds = decimal seconds ++ codes " s"
+
+-- how far the second moment is from the first, which can be behind it: a clock may be set back
+abbrev pub with_sign : (ℕ → List ℕ) → ℕ → ℕ → List ℕ
+with_sign words from to =
+    if nat_lt to from then codes "-" ++ words (from - to) else codes "+" ++ words (to - from)
+
+-- a moment in microseconds: a second, and a fraction of it
+abbrev pub moment : ℕ → ℕ → ℕ
+moment second micro = second * 1000000 + micro
 
 abbrev pub between_words : ℕ → Option ℕ → ℕ → Option ℕ → List ℕ
-between_words first None second to = whole_words first second
-between_words first (Some from) second None = whole_words first second
+between_words first None second to = with_sign seconds_words first second
+between_words first (Some from) second None = with_sign seconds_words first second
 between_words first (Some from) second (Some to) =
-    precise_words (micros_between first from second to)
+    with_sign micros_words (moment first from) (moment second to)
 
 -- how long its packet is behind the connection's first, in seconds: with their fraction, if the
 -- recording has it of both

@@ -3,14 +3,14 @@
 ghost use Rattle.std.specs.Prelude.{◌≡◌, ◌<◌, ◌≤◌, ◌+◌, ◌-◌, [], ◌↔◌, IfOk, IfSome, IsTrue, drop, length, take};
 ghost use Rattle.bgp_lines.specs.Form.{Before as Messages};
 ghost use Rattle.bgp_values.specs.Opens.{AreOpens};
-ghost use Rattle.bgp_ladder.specs.Batch.{AreDeeds, HasWords, Holds, IsBatch, first_end};
+ghost use Rattle.bgp_ladder.specs.Batch.{AreDeeds, ArePlain, HasWords, Holds, IsBatch, first_end};
 ghost use Rattle.bgp_ladder.specs.Batch.{first_zero, zeros};
 
 use crate::deed::deeds_of;
 use crate::runs::Part;
 use bgp_recording::{Entry, Framings};
 use bgp_values::Opens;
-use memchr::memchr;
+use memchr::{memchr, memchr2, memchr3};
 use mrt::Record;
 use std::alloc::{AllocError, Allocator};
 
@@ -21,6 +21,9 @@ const AT_ONCE: usize = 1 << 15;
 /// A record counts as so many octets, at the least.
 const LEAST: usize = 64;
 
+/// So many octets are searched at once for octets 0, which an octet counts.
+const FEW: usize = 255;
+
 /// What the next records show, in words.
 #[derive(Drop)]
 pub(crate) struct Batch<A: Allocator> {
@@ -30,7 +33,32 @@ pub(crate) struct Batch<A: Allocator> {
     at: usize,
     /// Of how many records they are.
     left: usize,
+    /// Whether it is known that HTML has all of them as they are.
+    are_plain: bool,
     ghost within: { at ≤ length octets.items },
+    ghost plain: { IsTrue are_plain → ArePlain octets.items },
+}
+
+/// Checks whether HTML has octets as they are.
+fn are_plain(octets: &[u8]) -> bool
+    ensures { IsTrue result → ArePlain octets.now }
+{
+    memchr3(b'&', b'<', b'>', octets).is_none() && memchr2(b'"', b'\'', octets).is_none()
+}
+
+/// Returns how many octets 0 there are of few: the processor compares some at once.
+fn few_zeros(octets: &[u8]) -> u8
+    requires { length octets.now ≤ 255 }
+    ensures value { result ≡ zeros octets.now }
+    ensures within { result ≤ length octets.now }
+{
+    let mut count = 0;
+    for octet in octets {
+        if *octet == 0 {
+            count += 1;
+        }
+    }
+    count
 }
 
 /// Returns how many octets 0 there are.
@@ -39,9 +67,10 @@ fn zeros_in(octets: &[u8]) -> usize
 {
     let mut count = 0;
     let mut rest = octets;
-    while let Some(place) = memchr(0, rest) {
-        count += 1;
-        rest = rest.split_at(place + 1).1;
+    while !rest.is_empty() {
+        let (piece, behind) = rest.split_at(rest.len().min(FEW));
+        count += few_zeros(piece) as usize;
+        rest = behind;
     }
     count
 }
@@ -117,6 +146,7 @@ impl<A: Allocator> Batch<A> {
             octets: Vec::new(alloc),
             at: 0,
             left: 0,
+            are_plain: false,
         }
     }
 
@@ -138,6 +168,13 @@ impl<A: Allocator> Batch<A> {
         &self.octets[self.at..end]
     }
 
+    /// Whether it is known that HTML has these words, and each part of them, as they are.
+    pub(crate) fn are_plain(&self) -> bool
+        ensures { IsTrue result → ArePlain self.now.octets.items }
+    {
+        self.are_plain
+    }
+
     /// Passes over those words, which end there.
     pub(crate) fn pass(&mut self, end: usize)
         requires { end ≤ length self.old.octets.items }
@@ -148,6 +185,20 @@ impl<A: Allocator> Batch<A> {
     {
         self.at = (end + 1).min(self.octets.len());
         self.left = self.left.saturating_sub(1);
+    }
+}
+
+/// Returns these words, which are those of so many records.
+fn batch_of<A: Allocator>(octets: Vec<u8, A>, left: usize) -> Batch<A>
+    ensures octets { drop result.at result.octets.items ≡ octets.items }
+    ensures left { result.left ≡ left }
+{
+    let are_plain = are_plain(octets.as_slice());
+    Batch {
+        octets,
+        at: 0,
+        left,
+        are_plain,
     }
 }
 
@@ -189,16 +240,11 @@ fn begun<A: Allocator + Copy>(
 {
     let count = count_of(entries);
     match words_of(alloc, opens, framings, entries.split_at(count).0) {
-        Some(octets) => Ok(Batch {
-            octets,
-            at: 0,
-            left: count,
-        }),
-        None => Ok(Batch {
-            octets: deeds_of(alloc, opens, framings, entries.split_at(1).0)?,
-            at: 0,
-            left: 1,
-        }),
+        Some(octets) => Ok(batch_of(octets, count)),
+        None => {
+            let octets = deeds_of(alloc, opens, framings, entries.split_at(1).0)?;
+            Ok(batch_of(octets, 1))
+        }
     }
 }
 

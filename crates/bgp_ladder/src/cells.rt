@@ -4,9 +4,9 @@ ghost use Rattle.std.specs.Prelude.{◌≡◌, ◌+◌, ◌%◌, ◌++◌, codes
 ghost use Rattle.std.specs.Fmt.{decimal};
 ghost use Rattle.bgp_text.specs.Lines.{Writes};
 ghost use Rattle.bgp_html.specs.Escaped.{escaped};
-ghost use Rattle.bgp_ladder.specs.Ladder.{elapsed_words, fraction_words, micros_between};
-ghost use Rattle.bgp_ladder.specs.Ladder.{precise_words, time_after, time_behind, time_words};
-ghost use Rattle.bgp_ladder.specs.Ladder.{whole_words};
+ghost use Rattle.bgp_ladder.specs.Ladder.{elapsed_words, fraction_words, micros_words, moment};
+ghost use Rattle.bgp_ladder.specs.Ladder.{seconds_words, time_after, time_behind, time_words};
+ghost use Rattle.bgp_ladder.specs.Ladder.{with_sign};
 
 use crate::rows::Ladder;
 use bgp_html::put_escaped;
@@ -22,13 +22,11 @@ pub(crate) fn put_number<W: Sink>(lines: &mut Lines<'_, W>, number: u64)
     lines.put_decimal(number);
 }
 
-/// Returns how many microseconds the first moment is before the other, or 0 if it is behind it.
-fn micros_between(first: Seconds, from: u32, second: Seconds, to: u32) -> u64
-    ensures { result ≡ micros_between first from second to }
+/// Returns a moment in microseconds.
+fn moment(second: Seconds, micro: u32) -> u64
+    ensures { result ≡ moment second micro }
 {
-    let start = u64::from(first) * 1_000_000 + u64::from(from);
-    let end = u64::from(second) * 1_000_000 + u64::from(to);
-    end.saturating_sub(start)
+    u64::from(second) * 1_000_000 + u64::from(micro)
 }
 
 /// Returns the octet of the last digit of a number.
@@ -56,22 +54,46 @@ fn put_fraction<W: Sink>(lines: &mut Lines<'_, W>, micros: u64)
     lines.put(&digits);
 }
 
-/// Puts how many microseconds a packet is behind the first, as seconds.
-fn put_precise<W: Sink>(lines: &mut Lines<'_, W>, micros: u64)
-    ensures { Writes lines.old lines.new (escaped (precise_words micros)) }
+/// Puts so many microseconds, as seconds.
+fn put_micros<W: Sink>(lines: &mut Lines<'_, W>, micros: u64)
+    ensures { Writes lines.old lines.new (micros_words micros) }
 {
-    lines.put(b"+");
     lines.put_decimal(micros / 1_000_000);
     put_fraction(lines, micros);
 }
 
-/// Puts how many seconds a packet is behind the first, of which no fraction is known.
-fn put_whole<W: Sink>(lines: &mut Lines<'_, W>, first: Seconds, second: Seconds)
-    ensures { Writes lines.old lines.new (escaped (whole_words first second)) }
+/// Puts so many seconds.
+fn put_seconds<W: Sink>(lines: &mut Lines<'_, W>, seconds: u32)
+    ensures { Writes lines.old lines.new (seconds_words seconds) }
 {
-    lines.put(b"+");
-    lines.put_decimal(u64::from(second.saturating_sub(first)));
+    lines.put_decimal(seconds);
     lines.put(b" s");
+}
+
+/// Puts how far a moment is from the first, both in microseconds.
+fn put_precise<W: Sink>(lines: &mut Lines<'_, W>, from: u64, to: u64)
+    ensures { Writes lines.old lines.new (escaped (with_sign micros_words from to)) }
+{
+    if to < from {
+        lines.put(b"-");
+        put_micros(lines, from - to);
+    } else {
+        lines.put(b"+");
+        put_micros(lines, to - from);
+    }
+}
+
+/// Puts how far a second is from the first, of which no fraction is known.
+fn put_whole<W: Sink>(lines: &mut Lines<'_, W>, first: Seconds, second: Seconds)
+    ensures { Writes lines.old lines.new (escaped (with_sign seconds_words first second)) }
+{
+    if second < first {
+        lines.put(b"-");
+        put_seconds(lines, first - second);
+    } else {
+        lines.put(b"+");
+        put_seconds(lines, second - first);
+    }
 }
 
 /// Puts how long an entry's packet is behind the first of the connection.
@@ -80,7 +102,7 @@ fn put_elapsed<W: Sink>(lines: &mut Lines<'_, W>, ladder: &Ladder, entry: &Entry
 {
     match (ladder.micro, entry.micro) {
         (Some(from), Some(to)) => {
-            put_precise(lines, micros_between(ladder.first, from, entry.second, to));
+            put_precise(lines, moment(ladder.first, from), moment(entry.second, to));
         }
         (Some(_) | None, _) => put_whole(lines, ladder.first, entry.second),
     }

@@ -3,6 +3,7 @@
 ghost use Rattle.std.specs.Prelude.{◌≡◌, ◌↔◌, IfOk, IsOk, IsTrue, List, ℕ};
 ghost use Rattle.mrt.specs.Reader.{shown_of};
 ghost use Rattle.mrt.specs.MemSink.{sink_state};
+ghost use Rattle.bgp_wire.specs.Header.{length_of};
 ghost use Rattle.bgp_text.specs.Lines.{Writes};
 ghost use Rattle.bgp_ladder.specs.Batch.{AreDeeds};
 ghost use Rattle.bgp_ladder.specs.Deed.{IsMessageText, IsDeedBy, IsWhole, change_text, octets_text};
@@ -13,15 +14,28 @@ use bgp_names::put_state_name;
 use bgp_recording::{Entry, Framings};
 use bgp_text::Lines;
 use bgp_values::{Direction, Opens, Reading};
-use bgp_wire::{HEADER_LEN, Limit};
+use bgp_wire::{HEADER_LEN, Limit, header_at};
+use byteorder::{BigEndian, ByteOrder};
 use mrt::{Failed, MemSink, Record, Sink, has_other_length};
 use std::alloc::{AllocError, Allocator};
 
-/// Returns whether octets are one whole message, or begin with a faulty header.
+/// Returns the Length field of a header.
+#[tactic(auto, unfolding(bgp_wire::specs::Header::length_of))]
+fn read_length(header: &[u8; HEADER_LEN]) -> usize
+    ensures { result ≡ length_of header.now }
+{
+    usize::from(BigEndian::read_u16(&header[16..]))
+}
+
+/// Returns whether octets are one whole message, or begin with a faulty header. Most have the
+/// Length of their header, so that no more of it is read.
 fn is_whole(limit: Limit, octets: &[u8]) -> bool
     ensures { IsTrue result ↔ IsWhole limit octets.now }
 {
-    HEADER_LEN <= octets.len() && !has_other_length(octets, limit)
+    let Some(header) = header_at(octets) else {
+        return false;
+    };
+    read_length(header) == octets.len() || !has_other_length(octets, limit)
 }
 
 /// Puts octets that are no message.

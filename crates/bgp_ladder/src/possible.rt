@@ -19,7 +19,7 @@ fn put_possible_row<W: Sink>(lines: &mut Lines<'_, W>, numbering: Numbering, lin
 {
     put_tag(lines, Tag::Row(What::Run, Mark::Possible));
     put_blanks(lines, numbering);
-    put_message(lines, line);
+    put_message(lines, line, false);
 }
 
 /// Puts the row of the line that begins at this place, if the octet at that one ends it. Returns

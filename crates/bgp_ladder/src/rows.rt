@@ -1,8 +1,9 @@
 //! The rows of records.
 
-ghost use Rattle.std.specs.Prelude.{◌≡◌, ◌<◌, ◌∷◌, [], ℕ, List, Some, OnErr, OnOk};
+ghost use Rattle.std.specs.Prelude.{◌≡◌, ◌<◌, ◌∷◌, [], ℕ, IsTrue, List, Some, OnErr, OnOk};
 ghost use Rattle.mrt.specs.Reader.{shown_of};
 ghost use Rattle.bgp_text.specs.Lines.{Writes};
+ghost use Rattle.bgp_html.specs.Escaped.{escaped};
 ghost use Rattle.bgp_html.specs.Pieces.{Piece, html_of};
 ghost use Rattle.bgp_values.specs.Opens.{AreOpens, received_with, sent_with};
 ghost use Rattle.bgp_values.specs.declared.opens.Opens.{Opens};
@@ -107,12 +108,25 @@ fn put_front<W: Sink>(
     put_numbers(lines, ladder.numbering, number, entry);
 }
 
+/// Puts a text. It isn't searched if it is known that HTML has it as it is.
+fn put_text<W: Sink>(lines: &mut Lines<'_, W>, text: &[u8], is_plain: bool)
+    requires { IsTrue is_plain → escaped text.now ≡ text.now }
+    ensures { Writes lines.old lines.new (escaped text.now) }
+{
+    if is_plain {
+        lines.put(text);
+    } else {
+        put_escaped(lines, text);
+    }
+}
+
 /// Puts a message that says this, and the end of its row.
-pub(crate) fn put_message<W: Sink>(lines: &mut Lines<'_, W>, text: &[u8])
+pub(crate) fn put_message<W: Sink>(lines: &mut Lines<'_, W>, text: &[u8], is_plain: bool)
+    requires { IsTrue is_plain → escaped text.now ≡ text.now }
     ensures { Writes lines.old lines.new (html_of (message_pieces text.now)) }
 {
     put_tag(lines, Tag::Message);
-    put_escaped(lines, text);
+    put_text(lines, text, is_plain);
     put_tag(lines, Tag::MessageEnd);
 }
 
@@ -126,13 +140,20 @@ fn put_change<W: Sink>(lines: &mut Lines<'_, W>, column: Column, text: &[u8])
 }
 
 /// Puts what a record shows, which is this, and the end of its row.
-fn put_shown<W: Sink>(lines: &mut Lines<'_, W>, column: Column, shown: &Record<'_>, text: &[u8])
+fn put_shown<W: Sink>(
+    lines: &mut Lines<'_, W>,
+    column: Column,
+    shown: &Record<'_>,
+    text: &[u8],
+    is_plain: bool,
+)
+    requires { IsTrue is_plain → escaped text.now ≡ text.now }
     ensures { Writes lines.old lines.new
         (html_of (deed_pieces column (shown_of shown.now) text.now)) }
 {
     match shown {
-        Record::In(..) => put_message(lines, text),
-        Record::Out(..) => put_message(lines, text),
+        Record::In(..) => put_message(lines, text, is_plain),
+        Record::Out(..) => put_message(lines, text, is_plain),
         Record::Change(..) => put_change(lines, column, text),
     }
 }
@@ -145,13 +166,15 @@ fn put_row<W: Sink>(
     number: usize,
     entry: &Entry<'_>,
     text: &[u8],
+    is_plain: bool,
 )
-    requires { number < u64.MAX }
+    requires number { number < u64.MAX }
+    requires plain { IsTrue is_plain → escaped text.now ≡ text.now }
     ensures { Writes lines.old lines.new (html_of (row_pieces ladder.now before.now.greatest
         before.now.previous number entry.now text.now)) }
 {
     put_front(lines, ladder, before, number, entry);
-    put_shown(lines, ladder.column, &entry.record, text);
+    put_shown(lines, ladder.column, &entry.record, text, is_plain);
 }
 
 /// Puts what stands for an entry behind these, by how it does, with what it shows. A row that sums
@@ -165,22 +188,24 @@ fn put_part<W: Sink>(
     last: &Entry<'_>,
     part: Part,
     text: &[u8],
+    is_plain: bool,
 )
     requires first { number < u64.MAX }
     requires last { LastWithin u64.MAX number part }
+    requires plain { IsTrue is_plain → escaped text.now ≡ text.now }
     ensures { (opens : Opens)
         → IsShownBy ladder.now.framings opens (shown_of entry.now.record) part text.now
         → (row : List Piece) × IsRowOf ladder.now opens before.now.greatest before.now.previous
         number entry.now last.now part row × Writes lines.old lines.new (html_of row) }
 {
     match part {
-        Part::Own => put_row(lines, ladder, before, number, entry, text),
+        Part::Own => put_row(lines, ladder, before, number, entry, text, is_plain),
         Part::Last => {
             let behind_sum = Before {
                 previous: None,
                 greatest: before.greatest,
             };
-            put_row(lines, ladder, &behind_sum, number, entry, text);
+            put_row(lines, ladder, &behind_sum, number, entry, text, is_plain);
         }
         Part::Sum(count) => put_sum(lines, ladder, number, count, entry, last),
         Part::Summed => {}
@@ -199,16 +224,20 @@ fn put_entry<W: Sink>(
     last: &Entry<'_>,
     part: Part,
     text: &[u8],
+    is_plain: bool,
 )
     requires first { number < u64.MAX }
     requires last { LastWithin u64.MAX number part }
+    requires plain { IsTrue is_plain → escaped text.now ≡ text.now }
     ensures { (opens : Opens)
         → IsShownBy ladder.now.framings opens (shown_of entry.now.record) part text.now
         → (row : List Piece) × IsEntryOf ladder.now possible.now opens before.now.greatest
         before.now.previous number entry.now last.now part row
         × Writes lines.old lines.new (html_of row) }
 {
-    put_part(lines, ladder, before, number, entry, last, part, text);
+    put_part(
+        lines, ladder, before, number, entry, last, part, text, is_plain,
+    );
     put_behind(lines, ladder, possible, number);
 }
 
@@ -283,9 +312,10 @@ fn put_all<A: Allocator + Copy, W: Sink>(
         batch = filled(alloc, batch, &opens, ladder.framings, rest, part)?;
         let end = batch.end();
         let text = batch.words(end);
+        let is_plain = batch.are_plain();
         let last = summed_last(entries, number, run);
         put_entry(
-            lines, ladder, possible, &before, number, entry, last, part, text,
+            lines, ladder, possible, &before, number, entry, last, part, text, is_plain,
         );
         batch.pass(end);
         take_shown(&mut opens, &entry.record);

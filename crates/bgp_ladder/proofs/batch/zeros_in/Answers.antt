@@ -1,23 +1,17 @@
-use Rattle.std.proofs.Common.{◌∙◌, ◌+◌, List, ℕ, ap, arith, length, sym}
-use Rattle.std.proofs.lemmas.List.{length-drop}
+use Rattle.std.proofs.Common.{ap, arith}
 use Rattle.bgp_ladder.specs.Batch.{zeros}
-use Rattle.bgp_ladder.proofs.ZeroPlaces.{zeros_after, zeros_nowhere}
+use Rattle.bgp_ladder.proofs.ZeroPlaces.{zeros_parted}
 use Rattle.bgp_ladder.proofs.batch.zeros_in.Goals as goal
 
-pub loop-place-preserved : goal.loop-place-preserved
-loop-place-preserved c =
-    let (counted, most) = c.loop-place.invariant in
-    let rest = c.loop-place.rest.now in
-    let place = c.in-Some.place in
-    let found = c.in-Some.ensures in
-    let back = c.split_at.ensures.back in
-    let within = found.0.high in
-    let more = zeros_after rest place within found.1 found.0.before ∙ ap (λ (os : List ℕ). zeros os + 1) (sym back) in
-    let less = ap length back ∙ length-drop (place + 1) rest in
-    (omega (arith, counted, more), omega (arith, most, less, within))
-
-pub returns : goal.returns
-returns c =
-    let counted = c.loop-place.invariant.0 in
-    let none = zeros_nowhere c.loop-place.rest.now c.in_default.ensures in
-    omega (arith, counted, none)
+pub loop-rest-preserved : goal.loop-rest-preserved
+loop-rest-preserved c =
+    let (counted, most) = c.loop-rest.invariant in
+    let parted = zeros_parted c.loop-rest.rest.now c.min.result in
+    let front = ap zeros c.split_at.ensures.front in
+    let back = ap zeros c.split_at.ensures.back in
+    let value = c.few_zeros.ensures.value in
+    let within = c.few_zeros.ensures.within in
+    let ahead = c.split_at.ensures.front_len in
+    let behind = c.split_at.ensures.back_len in
+    let least = c.min.ensures in
+    (omega (arith, counted, parted, front, back, value), omega (arith, most, within, ahead, behind, least))

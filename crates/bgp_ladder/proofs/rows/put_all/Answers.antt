@@ -34,6 +34,9 @@ put_entry-requires-clause-last g c =
     rw (c.part_of-part.ensures _ (is_whole c.args.ladder.now entries i (some_of entries i within) within c.next_run-run.result c.next_run-run.ensures))
     (last_within _ i _ c.next_run-run.result.behind (search (rules, most)))
 
+pub put_entry-requires-clause-plain : goal.put_entry-requires-clause-plain
+put_entry-requires-clause-plain g c plain = rw c.words-text.ensures (c.are_plain-is_plain.ensures plain _ _)
+
 pub loop-number-init : goal.loop-number-init
 loop-number-init g c = (
   ([], refl, nothing_yet g.W.Sink g.met.W.Sink.nothing c.args.lines.now.outlet c.args.lines.now.held.items),
