@@ -24,6 +24,7 @@ mod ladders;
 mod names;
 mod recording;
 mod stretch;
+mod stretch_names;
 mod stretches;
 
 // What `check` prints as text and in JSON is passed on, so that who prints a file in any form needs

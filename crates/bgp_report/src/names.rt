@@ -1,18 +1,15 @@
-//! The words of a ladder that name a connection and its ends.
+//! The words of a ladder that name a connection and its ends. They are made by themselves: for
+//! `Lines` a buffer is cleared that is far greater, and a file may have thousands of ladders.
 
-ghost use Rattle.std.specs.Prelude.{◌≡◌, IfOk, IsOk};
-ghost use Rattle.mrt.specs.MemSink.{sink_state};
-ghost use Rattle.bgp_text.specs.Lines.{Writes};
+ghost use Rattle.std.specs.Prelude.{◌≡◌, IfOk};
+ghost use Rattle.std.specs.String.{string_bytes};
+ghost use Rattle.bgp_why.specs.Endpoint.{with_port};
 ghost use Rattle.bgp_import.specs.ListText.{other_side};
-ghost use Rattle.bgp_report.specs.Ladders.{end_words, order_words, side_words, summary_words};
+ghost use Rattle.bgp_report.specs.Ladders.{order_words, side_words, summary_words};
 
 use bgp_check_tool::Order;
 use bgp_import::{end_of, other_side};
-use bgp_prefix::Session;
-use bgp_text::Lines;
-use bgp_why::{Endpoint as Named, put_endpoint};
-use mrt::{Failed, MemSink, Sink};
-use segments::Endpoint;
+use bgp_prefix::{Address, Session};
 use std::alloc::{AllocError, Allocator};
 use streams::{Opening, Side};
 
@@ -38,48 +35,17 @@ pub(crate) fn order_words(order: Order) -> &'static [u8]
     }
 }
 
-/// Puts an end of a connection.
-fn put_end<W: Sink>(lines: &mut Lines<'_, W>, end: Endpoint)
-    ensures { Writes lines.old lines.new (end_words end) }
+/// Returns an address with a port.
+pub(crate) fn port_words<A: Allocator>(
+    alloc: A,
+    address: Address,
+    port: u16,
+) -> Result<String<A>, AllocError>
+    ensures { IfOk result (λ text. string_bytes text ≡ with_port address port) }
 {
-    let named = Named {
-        address: end.address,
-        port: Some(end.port),
-    };
-    put_endpoint(lines, &named);
-}
-
-/// Puts the end on this side.
-fn put_side<W: Sink>(lines: &mut Lines<'_, W>, session: &Session, opening: Opening, side: Side)
-    ensures { Writes lines.old lines.new (side_words session.now opening side) }
-{
-    put_end(lines, end_of(side, session, opening));
-}
-
-/// Puts which records a ladder has.
-fn put_summary<W: Sink>(lines: &mut Lines<'_, W>, session: &Session, opening: Opening, side: Side)
-    ensures { Writes lines.old lines.new (summary_words session.now opening side) }
-{
-    lines.put(b"connection ");
-    lines.put_decimal(opening.number);
-    lines.put(b", ");
-    put_side(lines, session, opening, opening.opened_by);
-    lines.put(b" to ");
-    put_side(lines, session, opening, other_side(opening.opened_by));
-    lines.put(b": records of ");
-    put_side(lines, session, opening, side);
-}
-
-/// Returns what a sink in memory took, if it had memory for all of it.
-pub(crate) fn taken<A: Allocator>(
-    sink: MemSink<A>,
-    handed: Result<(), Failed>,
-) -> Result<Vec<u8, A>, AllocError>
-    ensures { IfOk result (λ text. IsOk handed × (text.items ≡ (sink_state sink).octets)) }
-{
-    match handed {
-        Ok(()) => Ok(sink.into_octets()),
-        Err(Failed) => Err(AllocError),
+    match address {
+        Address::V4(_) => format!(in alloc; "{address}:{port}"),
+        Address::V6(_) => format!(in alloc; "[{address}]:{port}"),
     }
 }
 
@@ -89,34 +55,11 @@ fn side_of<A: Allocator>(
     session: &Session,
     opening: Opening,
     side: Side,
-) -> Result<Vec<u8, A>, AllocError>
-    ensures { IfOk result (λ text. text.items ≡ side_words session.now opening side) }
+) -> Result<String<A>, AllocError>
+    ensures { IfOk result (λ text. string_bytes text ≡ side_words session.now opening side) }
 {
-    let mut sink = MemSink::new(alloc);
-    let mut lines = Lines::new(&mut sink);
-    put_side(&mut lines, session, opening, side);
-    let handed = lines.hand_over();
-    // No effect: it ends the loan of the sink.
-    lines.into_sink();
-    taken(sink, handed)
-}
-
-/// Returns which records a ladder has.
-fn summary_of<A: Allocator>(
-    alloc: A,
-    session: &Session,
-    opening: Opening,
-    side: Side,
-) -> Result<Vec<u8, A>, AllocError>
-    ensures { IfOk result (λ text. text.items ≡ summary_words session.now opening side) }
-{
-    let mut sink = MemSink::new(alloc);
-    let mut lines = Lines::new(&mut sink);
-    put_summary(&mut lines, session, opening, side);
-    let handed = lines.hand_over();
-    // No effect: it ends the loan of the sink.
-    lines.into_sink();
-    taken(sink, handed)
+    let end = end_of(side, session, opening);
+    port_words(alloc, end.address, end.port)
 }
 
 /// Returns the words of the ladder of the end on this side.
@@ -133,12 +76,14 @@ pub(crate) fn names_of<A: Allocator + Copy>(
     ensures right { IfOk result (λ names. names.right.items
         ≡ side_words session.now opening (other_side opening.opened_by)) }
 {
-    let summary = summary_of(alloc, session, opening, side)?;
+    let number = opening.number;
     let left = side_of(alloc, session, opening, opening.opened_by)?;
     let right = side_of(alloc, session, opening, other_side(opening.opened_by))?;
+    let end = side_of(alloc, session, opening, side)?;
+    let summary = format!(in alloc; "connection {number}, {left} to {right}: records of {end}")?;
     Ok(Names {
-        summary,
-        left,
-        right,
+        summary: summary.into_bytes(),
+        left: left.into_bytes(),
+        right: right.into_bytes(),
     })
 }

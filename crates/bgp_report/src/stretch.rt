@@ -3,25 +3,22 @@
 ghost use Rattle.std.specs.Prelude.{◌≡◌, IfOk, map};
 ghost use Rattle.mrt.specs.Reader.{shown_of};
 ghost use Rattle.bgp_prefix.specs.Shown.{second_of};
-ghost use Rattle.bgp_prefix.specs.Text.{address_text};
-ghost use Rattle.bgp_text.specs.Lines.{Writes};
 ghost use Rattle.bgp_check_tool.specs.Made.{AreOffered};
 ghost use Rattle.bgp_check_capture_tool.specs.Marks.{mark_value};
 ghost use Rattle.bgp_report.specs.DrawnStretch.{IsDrawnStretch};
-ghost use Rattle.bgp_report.specs.Stretches.{AreEntries, numbered_by, stretch_words};
+ghost use Rattle.bgp_report.specs.Stretches.{AreEntries, numbered_by};
 
 use crate::ladder::place_of;
-use crate::names::{Names, taken};
+use crate::names::Names;
+use crate::stretch_names::{text_of, words_of};
 use bgp_check::{heard_open, own_open};
 use bgp_check_capture_tool::{NumberedRecord, StretchMark};
-use bgp_check_text::put_end;
 use bgp_ended::framing_by;
 use bgp_html::Column;
 use bgp_ladder::{Ladder, Numbering};
-use bgp_prefix::{Address, Seconds};
+use bgp_prefix::Seconds;
 use bgp_recording::{Entry, Framings};
-use bgp_text::{Lines, put_address};
-use mrt::{MemSink, Record, Sink};
+use mrt::Record;
 use std::alloc::{AllocError, Allocator};
 
 /// Returns the second of a record.
@@ -77,47 +74,6 @@ fn framings_of(records: &[Record<'_>]) -> Framings
         received: framing_by(own_open(records)),
         sent: framing_by(heard_open(records)),
     }
-}
-
-/// Puts which records a ladder has.
-fn put_words<A: Allocator, W: Sink>(lines: &mut Lines<'_, W>, mark: &StretchMark<'_, A>)
-    ensures { Writes lines.old lines.new (stretch_words (mark_value mark.now)) }
-{
-    lines.put(b"session ");
-    put_address(lines, mark.addresses.local);
-    lines.put(b" with peer ");
-    put_address(lines, mark.addresses.peer);
-    lines.put(b": records of ");
-    put_end(lines, &mark.name);
-}
-
-/// Returns which records a ladder has.
-fn words_of<A: Allocator + Copy>(
-    alloc: A,
-    mark: &StretchMark<'_, A>,
-) -> Result<Vec<u8, A>, AllocError>
-    ensures { IfOk result (λ text. text.items ≡ stretch_words (mark_value mark.now)) }
-{
-    let mut sink = MemSink::new(alloc);
-    let mut lines = Lines::new(&mut sink);
-    put_words(&mut lines, mark);
-    let handed = lines.hand_over();
-    // No effect: it ends the loan of the sink.
-    lines.into_sink();
-    taken(sink, handed)
-}
-
-/// Returns the text of an address.
-fn text_of<A: Allocator>(alloc: A, address: Address) -> Result<Vec<u8, A>, AllocError>
-    ensures { IfOk result (λ text. text.items ≡ address_text address) }
-{
-    let mut sink = MemSink::new(alloc);
-    let mut lines = Lines::new(&mut sink);
-    put_address(&mut lines, address);
-    let handed = lines.hand_over();
-    // No effect: it ends the loan of the sink.
-    lines.into_sink();
-    taken(sink, handed)
 }
 
 /// What the ladder of a stretch is put of.
