@@ -35,7 +35,7 @@ use Rattle.bgp_visible_laws.proofs.Refusals.{name_word}
 use Rattle.bgp_visible_laws.proofs.Visible as visible
 use Rattle.bgp_answer_laws.specs.Answers.{Says}
 use Rattle.bgp_answer_laws.proofs.How.{who_and_how}
-use Rattle.bgp_answer_laws.proofs.Lines.{IsPlain, IsWhole, behind, both, ends, none_both, says_aside, says_beside, says_both, says_nothing, word}
+use Rattle.bgp_answer_laws.proofs.Lines.{IsPlain, IsWhole, behind, both, ends, none_both, says_aside, says_beside, says_nothing, word}
 use Rattle.bgp_answer_laws.proofs.Plain.{plain}
 use Rattle.bgp_answer_laws.proofs.Times.{address, end, number, short, when}
 
