@@ -7,10 +7,10 @@ pub mod Yes
 pub mod Lines
 pub mod Numbers
 pub mod Printed
-mod Commands
+pub mod Commands
 mod VisibleMembers
 mod VisibleLines
 mod Deeds
 mod Explained
 mod Routes
-mod Octets
+pub mod Octets

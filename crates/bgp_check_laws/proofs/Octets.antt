@@ -47,7 +47,7 @@ HasOctetsIn (Notification code parts) = IsWord parts.part
 
 -- ---- the message that was received last
 
-last_are : (last : List ℕ) (records : List ShownRecord) → AreOctets last → All shown.HasOctets records → AreOctets (last_from last records)
+pub last_are : (last : List ℕ) (records : List ShownRecord) → AreOctets last → All shown.HasOctets records → AreOctets (last_from last records)
 last_are last [] are all = are
 last_are last (Received second octets ∷ records) are all =
     last_are octets records (All-head shown.HasOctets (Received second octets) records all) (All-tail shown.HasOctets (Received second octets) records all)
@@ -135,7 +135,7 @@ of_sections link form s are =
     (All-append HasOctets tail last (of_tail (tail_at (rest_of s.attributes)))
     (All-append HasOctets (missing_parts s.nlri all) (base_parts link form s) (of_missing s.nlri all) (of_base link form s)))))
 
-of_update : (link : Link) (form : RouteForm) (octets : List ℕ) (parts : List Part) → AreOctets octets → AreUpdateParts link form octets parts → All HasOctets parts
+pub of_update : (link : Link) (form : RouteForm) (octets : List ℕ) (parts : List Part) → AreOctets octets → AreUpdateParts link form octets parts → All HasOctets parts
 of_update link form octets parts are (inl malformed) = subst (All HasOctets) (sym malformed.1) (All-cons HasOctets LengthsRunOver [] tt (All-nil HasOctets))
 of_update link form octets parts are (inr told) = subst (All HasOctets) (sym told.2) (of_sections link form told.0 (sections_are octets told.0 are told.1).1)
 

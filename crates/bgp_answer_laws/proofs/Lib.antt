@@ -1,0 +1,13 @@
+pub mod Notes
+pub mod Lines
+pub mod Plain
+pub mod Times
+pub mod Items
+pub mod Whys
+pub mod Reasons
+pub mod Routes
+pub mod How
+pub mod Heads
+pub mod Verdicts
+pub mod Ends
+pub mod Stretches

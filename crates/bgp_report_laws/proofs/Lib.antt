@@ -1,0 +1,3 @@
+mod Numbered
+mod Ladders
+mod Stretches
