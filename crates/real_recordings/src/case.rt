@@ -118,11 +118,11 @@ fn is_read_from_json<R: Print + AllocGlobal>(
 }
 
 /// How many verdicts of `bgp check` are those of `bgp judge` with the options that `--settings`
-/// prints: `None` where one of them isn't. Those of a case that is quiet stand in another, too, and
-/// those of a report in that of its text.
+/// prints: `None` where one of them isn't. Those of a case that is quiet, or a report, stand in
+/// another, too.
 fn judged_again(alloc: Global, case: &Case<'_>, file: &File<'_>) -> io::Result<Option<u64>> {
-    let stands_in_another = case.words.contains("--quiet") || case.words.contains("--html");
-    if !case.words.starts_with("check") || stands_in_another || case.shows == Shows::FirstColumn {
+    let is_elsewhere = case.words.contains("--quiet") || case.words.contains("--html");
+    if !case.words.starts_with("check") || is_elsewhere || case.shows == Shows::FirstColumn {
         return Ok(Some(0));
     }
     if case.words.contains("--settings") {
