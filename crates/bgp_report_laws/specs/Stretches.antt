@@ -1,10 +1,9 @@
 -- The ladders of a report on an MRT file: each has the lines of its own stretch's reason.
-use Rattle.std.specs.Prelude.{◌≡◌, ◌⊎◌, ◌<◌, ◌++◌, ℕ, Bool, List, [], ◌∷◌, Option, None, Some}
+use Rattle.std.specs.Prelude.{◌≡◌, ◌⊎◌, ◌<◌, ◌+◌, ◌++◌, ℕ, Bool, List, [], ◌∷◌, Option}
 use Rattle.std.specs.Prelude.{length, map}
 use Rattle.std.specs.List.{AllByRecursion}
 use Rattle.std.proofs.Common.{inl, inr}
 use Rattle.mrt.specs.declared.fault.CaptureFault.{CaptureFault}
-use Rattle.mrt_sessions.specs.declared.addresses.Addresses.{Addresses}
 use Rattle.mrt_sessions.specs.declared.holding.Ending.{Ending}
 use Rattle.bgp_html.specs.Pieces.{Piece}
 use Rattle.bgp_verdict_lines.specs.declared.form.VerdictForm.TheVariants.{Text}
@@ -15,7 +14,7 @@ use Rattle.bgp_check_capture_tool.specs.declared.nothing.NothingJudged.{NothingJ
 use Rattle.bgp_check_capture_tool.specs.declared.options.CaptureOptions.{CaptureOptions}
 use Rattle.bgp_answer_laws.specs.Answers.{Answer}
 use Rattle.bgp_answer_laws.specs.Stretches.{HaveLines, pairs_of}
-use Rattle.bgp_report.specs.Report.{ChecksHeldWithStretches}
+use Rattle.bgp_report.specs.Report.{ChecksWithStretches}
 use Rattle.bgp_report.specs.Stretches.{IsStretch, lost_pieces, none_pieces, stretch_is_open}
 use Rattle.bgp_report.specs.Stretches.{stretches_pieces}
 use Rattle.bgp_report_laws.specs.Ladders.{IsOwn}
@@ -29,13 +28,13 @@ IsOwnStretch is_open mark answer pieces =
 abbrev pub marks_in : List (MarkValue × Answer) → List MarkValue
 marks_in pairs = map (λ (pair : MarkValue × Answer). pair.0) pairs
 
--- those of each, behind one of the session between these addresses, if there is one
-abbrev pub AreOwnStretches : Option Addresses → List (MarkValue × Answer) → List Piece → Type 0
-AreOwnStretches previous [] pieces = pieces ≡ []
-AreOwnStretches previous (pair ∷ pairs) pieces =
+-- of a file with all these marks those of some, from the one with this number on
+abbrev pub AreOwnStretches : List MarkValue → ℕ → List (MarkValue × Answer) → List Piece → Type 0
+AreOwnStretches all number [] pieces = pieces ≡ []
+AreOwnStretches all number (pair ∷ pairs) pieces =
     (one rest : List Piece)
-    × IsOwnStretch (stretch_is_open previous pair.0 (marks_in pairs)) pair.0 pair.1 one
-    × AreOwnStretches (Some pair.0.addresses) pairs rest × (pieces ≡ one ++ rest)
+    × IsOwnStretch (stretch_is_open all number pair.0) pair.0 pair.1 one
+    × AreOwnStretches all (number + 1) pairs rest × (pieces ≡ one ++ rest)
 
 -- after the text: those of all stretches that are judged; nothing if there are none; or that memory
 -- was refused
@@ -43,8 +42,8 @@ abbrev pub AreOwnBehind : List (MarkValue × Answer) → List Piece → Type 0
 AreOwnBehind pairs behind =
     ((marks_in pairs ≡ []) × (behind ≡ []))
     ⊎ (behind ≡ none_pieces)
-    ⊎ ((0 < length (marks_in pairs)) × (ladders : List Piece) × AreOwnStretches None pairs ladders
-    × (behind ≡ stretches_pieces ladders))
+    ⊎ ((0 < length (marks_in pairs)) × (ladders : List Piece)
+    × AreOwnStretches (marks_in pairs) 0 pairs ladders × (behind ≡ stretches_pieces ladders))
 
 -- the pairs of what is told of a capture
 abbrev pub told_pairs : (options : CaptureOptions) {octets : List ℕ} {ending : Ending}
@@ -64,13 +63,14 @@ ToldHaveLines options (inr none) = Unit {0}
 
 -- What a report says could have come in a ladder are the lines of that stretch's own reason, in
 -- their order.
-abbrev pub LaddersHaveTheirOwn : Type 0
-LaddersHaveTheirOwn =
-    (options : CaptureOptions) (octets : List ℕ) (ending : Ending)
-    (firsts : List (Option CaptureFault)) (count : ℕ) (fault : Option CaptureFault)
-    (nothing : Option NothingJudged) (text : List ℕ) (code : ℕ) (behind : List Piece)
+abbrev pub LaddersHaveTheirOwn : {S : Type 0} → (S → S → List ℕ → Type 0) → (S → Bool)
+    → (S → ℕ) → Type 0
+LaddersHaveTheirOwn {S} gives has_ended source_failures =
+    (options : CaptureOptions) (source source' : S) (firsts : List (Option CaptureFault))
+    (count : ℕ) (fault : Option CaptureFault) (nothing : Option NothingJudged) (text : List ℕ)
+    (code : ℕ) (behind : List Piece)
     → options.form ≡ Text
-    → (is : ChecksHeldWithStretches options octets ending firsts count fault nothing text code
-    behind)
-    → ToldHaveLines options is.checks.tells
-    → AreOwnBehind (told_pairs options is.checks.tells) behind
+    → (is : ChecksWithStretches gives has_ended source_failures options source source' firsts count
+    fault nothing text code behind)
+    → ToldHaveLines options is.checks.checks.tells
+    → AreOwnBehind (told_pairs options is.checks.checks.tells) behind

@@ -12,7 +12,7 @@ use mrt::Source;
 /// file, if the texts that come from their records are lines.
 pub fn each_ladder_has_its_own_lines<R: Source>()
     ensures recordings { recordings.LaddersHaveTheirOwn R.gives R.has_ended R.failures }
-    ensures captures { captures.LaddersHaveTheirOwn }
+    ensures captures { captures.LaddersHaveTheirOwn R.gives R.has_ended R.failures }
 {
     notes_are_of_answers();
     each_mark_has_its_answer();
