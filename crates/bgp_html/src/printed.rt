@@ -58,8 +58,8 @@ fn is_indented(kind: Kind) -> bool
     }
 }
 
-/// Checks whether a line of this kind stands in the element of the `count` lines before it: one that
-/// is open, or none.
+/// Checks whether a line of this kind stands in the element of the `count` lines before it: one
+/// that is open, or none.
 fn joins(count: usize, kind: Kind) -> bool
     ensures { result ≡ joins count kind }
 {

@@ -27,9 +27,9 @@ use std::alloc::Allocator;
 const FRONT: usize = 4;
 
 /// A report on its way to a sink. It is a sink, too: it takes what `bgp check` prints, and puts
-/// its lines into elements by what they say: lines that are indented together, as far as they follow
-/// each other, and each other line by itself. It notes what could have come, answer by answer. It
-/// never fails: if the sink behind it does, the lines tell of that.
+/// its lines into elements by what they say: lines that are indented together, as far as they
+/// follow each other, and each other line by itself. It notes what could have come, answer by
+/// answer. It never fails: if the sink behind it does, the lines tell of that.
 #[derive(Drop)]
 pub struct Report<'a, A: Allocator, W: Sink> {
     lines: Lines<'a, W>,
@@ -108,8 +108,8 @@ impl<'a, A: Allocator + Copy, W: Sink> Report<'a, A, W> {
         (self.lines, self.notes)
     }
 
-    /// Puts the front of the last line, behind `count` lines, or nothing if it is empty; and the end
-    /// of the element.
+    /// Puts the front of the last line, behind `count` lines, or nothing if it is empty; and the
+    /// end of the element.
     fn end_front(&mut self, count: usize)
         ensures writes { Writes self.old.lines self.new.lines
             (end_html (Front count self.old.front.items)) }
