@@ -50,15 +50,15 @@ abbrev pub AreAllGroups : List (List (List ℕ)) → Type 0
 AreAllGroups [] = ⊤
 AreAllGroups (group ∷ groups) = IsGroup group × AreAllGroups groups
 
--- whether the first line of a group can't stand with these
-abbrev pub IsBehind : List (List ℕ) → List (List ℕ) → Type 0
-IsBehind group [] = ⊤
-IsBehind group (line ∷ lines) = goes_with group line ≡ false
+-- whether the first line of the next group can't stand with these
+abbrev pub BeginsAnew : List (List ℕ) → List (List ℕ) → Type 0
+BeginsAnew group [] = ⊤
+BeginsAnew group (line ∷ lines) = goes_with group line ≡ false
 
 abbrev pub AreApart : List (List (List ℕ)) → Type 0
 AreApart [] = ⊤
 AreApart (group ∷ []) = ⊤
-AreApart (group ∷ next ∷ groups) = IsBehind group next × AreApart (next ∷ groups)
+AreApart (group ∷ next ∷ groups) = BeginsAnew group next × AreApart (next ∷ groups)
 
 -- these are groups of the lines
 pub record AreGroups (lines : List (List ℕ)) (groups : List (List (List ℕ))) : Type 0 where

@@ -19,9 +19,9 @@ use Rattle.bgp_html.specs.declared.printed.Element.TheVariants as elements
 use Rattle.bgp_html.specs.declared.printed.Kind.{Kind}
 use Rattle.bgp_html.specs.declared.printed.Kind.TheVariants as kinds
 
--- at the front of a line, of which these octets came, and nothing is written: behind so many lines
--- of an element that is open, or behind none; or within a line that says this, all of which is
--- written that came, the last of so many in its element
+-- at the front of a line, of which these octets came, and nothing is written: behind `count` lines
+-- of an element that is open, or behind none; or within a line of this kind, all of which is
+-- written that came, the last of `count` in its element
 pub data Place : Type 0 where
   Front : ℕ → List ℕ → Place
   Within : Kind → ℕ → Place
@@ -31,7 +31,7 @@ place_of None front = Front 0 front
 place_of (Some (elements.Lines count)) front = Front count front
 place_of (Some (elements.Line kind count)) front = Within kind count
 
--- whether a line that says this stands in the element of so many lines before it
+-- whether a line of this kind stands in the element of the `count` lines before it
 abbrev pub joins : ℕ → Kind → Bool
 joins count kind = nat_lt 0 count && nat_lt count most_lines && is_indented kind
 
@@ -39,30 +39,30 @@ joins count kind = nat_lt 0 count && nat_lt count most_lines && is_indented kind
 abbrev pub count_with : ℕ → Kind → ℕ
 count_with count kind = if joins count kind then count + 1 else 1
 
--- what ends an element of so many lines that is open
+-- what ends an element of `count` lines that is open
 abbrev pub open_end : ℕ → List ℕ
 open_end count = if count == 0 then [] else kind_end kinds.Beside
 
--- what stands between these lines and one that says this
+-- what stands between these lines and one of this kind
 abbrev pub between : ℕ → Kind → List ℕ
 between count kind = if joins count kind then [] else open_end count ++ kind_start kind
 
--- of a line that says this, of which this is the front, what stands before the rest
+-- of a line of this kind, of which this is the front, what stands before the rest
 abbrev pub begun_html : ℕ → Kind → List ℕ → List ℕ
 begun_html count kind front = between count kind ++ escaped front
 
--- what stands behind a line that says this: more lines can stand with one that is indented
+-- what stands behind a line of this kind: more lines can stand with one that is indented
 abbrev pub line_end : Kind → List ℕ
 line_end kind = if is_indented kind then [] else kind_end kind
 
--- the element that is open there, if the line is the last of so many
+-- the element that is open there, if the line is the last of `count`
 abbrev pub open_behind : Kind → ℕ → Option Element
 open_behind kind count = if is_indented kind then Some (elements.Lines count) else None
 
 abbrev pub behind_line : Kind → ℕ → Place
 behind_line kind count = place_of (open_behind kind count) []
 
--- of a line that says this, all of which came, behind so many lines
+-- of a line of this kind, all of which came, behind `count` lines
 abbrev pub line_html : ℕ → Kind → List ℕ → List ℕ
 line_html count kind line = begun_html count kind line ++ line_end kind
 

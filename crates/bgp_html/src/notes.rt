@@ -78,7 +78,7 @@ impl<A: Allocator + Copy> Notes<A> {
         }
     }
 
-    /// Adds the rest of a line that says this.
+    /// Adds the rest of a line of this kind.
     pub(crate) fn add_rest(&mut self, kind: Kind, octets: &[u8])
         ensures { IsNotedBy self.old self.new (with_rest kind octets.now) }
     {
@@ -87,7 +87,7 @@ impl<A: Allocator + Copy> Notes<A> {
         }
     }
 
-    /// Adds a line that says this, or its front.
+    /// Adds a line of this kind, or its front.
     pub(crate) fn add_line(&mut self, kind: Kind, octets: &[u8])
         ensures { IsNotedBy self.old self.new (with_line kind octets.now) }
     {

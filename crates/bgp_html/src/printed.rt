@@ -37,7 +37,7 @@ pub enum Kind {
 /// An element that is open.
 #[derive(Clone, Copy, Debug, PartialEq, Eq)]
 pub enum Element {
-    /// A line that says this has begun: it is the last of so many.
+    /// A line of this kind has begun: it is the last of so many.
     Line(Kind, usize),
     /// So many lines stand in it, and the next can stand there, too.
     Lines(usize),
@@ -58,8 +58,8 @@ fn is_indented(kind: Kind) -> bool
     }
 }
 
-/// Checks whether a line of this kind stands in the element of so many lines before it: one that is
-/// open, or none.
+/// Checks whether a line of this kind stands in the element of the `count` lines before it: one
+/// that is open, or none.
 fn joins(count: usize, kind: Kind) -> bool
     ensures { result ≡ joins count kind }
 {
@@ -123,7 +123,7 @@ pub(crate) fn kind_of(front: &[u8]) -> Kind
     }
 }
 
-/// Puts the end of an element of so many lines, if one is open.
+/// Puts the end of an element of `count` lines, if one is open.
 fn put_open_end<W: Sink>(lines: &mut Lines<'_, W>, count: usize)
     ensures { Writes lines.old lines.new (open_end count) }
 {
@@ -142,14 +142,14 @@ fn put_between<W: Sink>(lines: &mut Lines<'_, W>, count: usize, kind: Kind)
     }
 }
 
-/// Returns how many lines the element has in which a line of this kind stands, behind so many.
+/// Returns how many lines the element has in which a line of this kind stands, behind `count`.
 pub(crate) fn count_with(count: usize, kind: Kind) -> usize
     ensures { result ≡ count_with count kind }
 {
     if joins(count, kind) { count + 1 } else { 1 }
 }
 
-/// Puts the front of a line of this kind behind so many lines: in their element or in one of its
+/// Puts the front of a line of this kind behind `count` lines: in their element or in one of its
 /// own.
 pub(crate) fn put_begun<W: Sink>(lines: &mut Lines<'_, W>, count: usize, kind: Kind, front: &[u8])
     ensures { Writes lines.old lines.new (begun_html count kind front.now) }
@@ -167,7 +167,7 @@ pub(crate) fn put_line_end<W: Sink>(lines: &mut Lines<'_, W>, kind: Kind)
     }
 }
 
-/// Puts a line of this kind behind so many lines.
+/// Puts a line of this kind behind `count` lines.
 pub(crate) fn put_line<W: Sink>(lines: &mut Lines<'_, W>, count: usize, kind: Kind, line: &[u8])
     ensures { Writes lines.old lines.new (line_html count kind line.now) }
 {
@@ -175,7 +175,7 @@ pub(crate) fn put_line<W: Sink>(lines: &mut Lines<'_, W>, count: usize, kind: Ki
     put_line_end(lines, kind);
 }
 
-/// Returns the element that is open behind a line of this kind, the last of so many.
+/// Returns the element that is open behind a line of this kind, the last of `count`.
 pub(crate) fn open_behind(kind: Kind, count: usize) -> Option<Element>
     ensures { result ≡ open_behind kind count }
 {
@@ -186,7 +186,7 @@ pub(crate) fn open_behind(kind: Kind, count: usize) -> Option<Element>
     }
 }
 
-/// Puts the front of the last line behind so many lines, if it isn't empty, and the end of the
+/// Puts the front of the last line behind `count` lines, if it isn't empty, and the end of the
 /// element.
 pub(crate) fn put_last<W: Sink>(lines: &mut Lines<'_, W>, count: usize, front: &[u8])
     ensures { Writes lines.old lines.new (end_html (Front count front.now)) }

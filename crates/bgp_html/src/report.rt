@@ -27,8 +27,9 @@ use std::alloc::Allocator;
 const FRONT: usize = 4;
 
 /// A report on its way to a sink. It is a sink, too: it takes what `bgp check` prints, and puts
-/// its lines into elements by what they say: lines that are indented together, as far as they follow
-/// each other, and each other line by itself. It notes what could have come, answer by answer. It never fails: if the sink behind it does, the lines tell of that.
+/// its lines into elements by what they say: lines that are indented together, as far as they
+/// follow each other, and each other line by itself. It notes what could have come, answer by
+/// answer. It never fails: if the sink behind it does, the lines tell of that.
 #[derive(Drop)]
 pub struct Report<'a, A: Allocator, W: Sink> {
     lines: Lines<'a, W>,
@@ -107,8 +108,8 @@ impl<'a, A: Allocator + Copy, W: Sink> Report<'a, A, W> {
         (self.lines, self.notes)
     }
 
-    /// Puts the front of the last line, behind so many lines, or nothing if it is empty; and the end
-    /// of the element.
+    /// Puts the front of the last line, behind `count` lines, or nothing if it is empty; and the
+    /// end of the element.
     fn end_front(&mut self, count: usize)
         ensures writes { Writes self.old.lines self.new.lines
             (end_html (Front count self.old.front.items)) }
@@ -120,7 +121,7 @@ impl<'a, A: Allocator + Copy, W: Sink> Report<'a, A, W> {
         self.notes.add_line(kind_of(front), front);
     }
 
-    /// Puts an octet at the front of a line, behind so many lines.
+    /// Puts an octet at the front of a line, behind `count` lines.
     fn put_front(&mut self, count: usize, octet: u8)
         requires { place_of self.old.element self.old.front.items
             ≡ Front count self.old.front.items }
@@ -143,7 +144,7 @@ impl<'a, A: Allocator + Copy, W: Sink> Report<'a, A, W> {
         }
     }
 
-    /// Puts octets of a line that says this: they don't end it.
+    /// Puts octets of a line of this kind: they don't end it.
     fn put_rest(&mut self, kind: Kind, count: usize, octets: &[u8])
         requires element { self.old.element ≡ Some (Line kind count) }
         requires none { HasNoEnd octets.now }
@@ -155,7 +156,7 @@ impl<'a, A: Allocator + Copy, W: Sink> Report<'a, A, W> {
         self.notes.add_rest(kind, octets);
     }
 
-    /// Puts the end of a line that says this.
+    /// Puts the end of a line of this kind.
     fn end_line(&mut self, kind: Kind, count: usize)
         requires { self.old.element ≡ Some (Line kind count) }
         ensures { Puts self.old.lines self.new.lines self.old.element self.new.element
@@ -168,7 +169,7 @@ impl<'a, A: Allocator + Copy, W: Sink> Report<'a, A, W> {
         self.front.clear();
     }
 
-    /// Puts octets of a line that says this, and its end if that is among them. Returns how many.
+    /// Puts octets of a line of this kind, and its end if that is among them. Returns how many.
     fn put_within(&mut self, kind: Kind, count: usize, octets: &[u8]) -> usize
         requires element { self.old.element ≡ Some (Line kind count) }
         requires some { 0 < length octets.now }
