@@ -70,8 +70,8 @@ between_words first (Some from) second None = with_sign seconds_words first seco
 between_words first (Some from) second (Some to) =
     with_sign micros_words (moment first from) (moment second to)
 
--- how far its packet is from the connection's first, in seconds, with `-` if its time is before that
--- one's: with their fraction, if the recording has it of both
+-- how far its packet is from the connection's first, in seconds, with `-` if its time is before
+-- that one's: with their fraction, if the recording has it of both
 abbrev pub elapsed_words : Ladder → Entry → List ℕ
 elapsed_words ladder entry = between_words ladder.first ladder.micro entry.second entry.micro
 

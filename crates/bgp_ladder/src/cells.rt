@@ -96,8 +96,8 @@ fn put_whole<W: Sink>(lines: &mut Lines<'_, W>, first: Seconds, second: Seconds)
     }
 }
 
-/// Puts how far an entry's packet is from the first of the connection: with `-` if its time is before
-/// that one's.
+/// Puts how far an entry's packet is from the first of the connection, with `-` if its time is
+/// before that one's.
 fn put_elapsed<W: Sink>(lines: &mut Lines<'_, W>, ladder: &Ladder, entry: &Entry<'_>)
     ensures { Writes lines.old lines.new (escaped (elapsed_words ladder.now entry.now)) }
 {
