@@ -15,6 +15,7 @@ pub mod Notes
 pub mod Listing
 pub mod Images
 pub mod Making
+pub mod Announced
 pub mod Behind
 pub mod Refusals
 pub mod OneTable

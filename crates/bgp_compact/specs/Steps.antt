@@ -1,7 +1,7 @@
 -- What the steps that a record opens make of members that have nothing left to show.
-use Rattle.std.specs.Prelude.{◌≡◌, ◌≢◌, ◌⊎◌, false, IsSome, IsTrue, List, [], ◌∷◌, Option}
+use Rattle.std.specs.Prelude.{◌≡◌, ◌≢◌, ◌⊎◌, ℕ, false, IsSome, IsTrue, List, [], ◌∷◌, Option}
 use Rattle.std.specs.Prelude.{None, Some}
-use Rattle.bgp_prefix.specs.Shown.{ShownRecord}
+use Rattle.bgp_prefix.specs.Shown.{ShownRecord, Sent}
 use Rattle.bgp_open.specs.declared.config.Config.{Config}
 use Rattle.bgp_open.specs.declared.families.Families.{Families}
 use Rattle.bgp_open.specs.declared.link.Link.{Link}
@@ -10,18 +10,19 @@ use Rattle.bgp_update.specs.Changes.{RouteChanges}
 use Rattle.bgp_machine.specs.declared.fsm.Fsm.{Fsm}
 use Rattle.bgp_machine.specs.declared.fsm.Fsm.TheVariants as fsms
 use Rattle.bgp_machine.specs.declared.state.Head.{Head}
-use Rattle.bgp_machine.specs.declared.state.Head.TheVariants.{Idle}
+use Rattle.bgp_machine.specs.declared.state.Head.TheVariants.{Established, Idle}
+use Rattle.bgp_machine.specs.declared.state.HoldTimer.{HoldTimer}
 use Rattle.bgp_machine.specs.declared.step.Routes.TheVariants as routes
 use Rattle.bgp_machine.specs.declared.step.Step.{Step}
 use Rattle.bgp_machine.specs.declared.want.FaultSet.{FaultSet}
 use Rattle.bgp_machine.specs.declared.want.Want.{Want}
-use Rattle.bgp_machine.specs.declared.want.Want.TheVariants.{Faults}
+use Rattle.bgp_machine.specs.declared.want.Want.TheVariants.{CleanUpdate, Faults}
 use Rattle.bgp_machine.specs.Going.{told, shown_after, undelayed}
 use Rattle.bgp_machine.specs.Listed.{changes_of, turn_of}
 use Rattle.bgp_machine.specs.Rows.{silent_heads}
 use Rattle.bgp_machine.specs.Run.{is_delayed}
 use Rattle.bgp_machine.specs.State.{Turn, Given, fsm_of, link_at, moved}
-use Rattle.bgp_machine.specs.Want.{wants_of}
+use Rattle.bgp_machine.specs.Want.{Meets, wants_of}
 use Rattle.bgp_rib.specs.Routes.{Routes, no_routes, routes_after, routes_without}
 use Rattle.bgp_judge.specs.Member.{Member, link_for}
 use Rattle.bgp_judge.specs.Next.{Opens}
@@ -120,6 +121,19 @@ Fits changes table step =
 abbrev pub IsOpen : Config → Head → ShownRecord → RouteChanges → Step → Type 0
 IsOpen config head shown changes step =
     Opens config head shown (wants_of step.wants) step.change (turn_of changes step.after)
+
+-- The record is an UPDATE that is sent in Established and may be (RFC 4271, 9.2), and no member falls.
+-- The members of the base stay as they are, then.
+pub record IsAnnounced (config : Config) (words : Words) (base : Base) (shown : ShownRecord)
+    : Type 0 where
+  pub link : Link
+  pub timer : HoldTimer
+  pub head_is : base.head ≡ Established link timer
+  pub second : ℕ
+  pub octets : List ℕ
+  pub sent : shown ≡ Sent second octets
+  pub meets : Meets config (Some link) CleanUpdate octets
+  pub none_falls : (fall : Fall) → ¬ HasFall words.falls fall
 
 -- some member is there
 abbrev pub HasSome : Base → Type 0

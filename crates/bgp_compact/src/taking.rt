@@ -1,7 +1,7 @@
 //! What becomes of the members by one record more.
 
-ghost use Rattle.std.specs.Prelude.{◌≡◌, ◌∷◌, [], false, IfOk, IsErr, IsOk, IsSome, MatchOption};
-ghost use Rattle.std.specs.Prelude.{OnErr, OnOk};
+ghost use Rattle.std.specs.Prelude.{◌≡◌, ◌∷◌, [], false, IfOk, IsErr, IsOk, IsSome, IsTrue};
+ghost use Rattle.std.specs.Prelude.{MatchOption, OnErr, OnOk};
 ghost use Rattle.bgp_machine.specs.declared.fsm.Fsm.TheVariants as fsms;
 ghost use Rattle.bgp_machine.specs.Going.{shown_after, told, undelayed};
 ghost use Rattle.bgp_machine.specs.Listed.{changes_of};
@@ -17,7 +17,7 @@ ghost use Rattle.bgp_compact.specs.Memory.{BaseTakesMemory};
 ghost use Rattle.bgp_compact.specs.Parts.{AreFine};
 ghost use Rattle.bgp_compact.specs.Standing.{IsTableOf};
 ghost use Rattle.bgp_compact.specs.Steps.{AreBehind, AreFresh, FromHead, FromLate, Gains, HasSome};
-ghost use Rattle.bgp_compact.specs.Steps.{AreMade, AreMadeAt, table_behind};
+ghost use Rattle.bgp_compact.specs.Steps.{AreMade, AreMadeAt, IsAnnounced, table_behind};
 
 use crate::base::{Base, free_base};
 use crate::beginning::with_steps;
@@ -25,7 +25,7 @@ use crate::paying::paid;
 use crate::words::Words;
 use arrayvec::ArrayVec;
 use bgp_judge::list_openings;
-use bgp_machine::{Fsm, Head};
+use bgp_machine::{Fsm, Head, Want, meets};
 use bgp_open::Config;
 use bgp_rib::RibIn;
 use bgp_update::Changes;
@@ -120,6 +120,19 @@ fn add_delayed<A: Allocator + Copy>(
     })
 }
 
+/// Whether the record is an UPDATE that is sent in Established and may be, and no member falls: then
+/// all stay as they are, and so nothing has to be made of them. Most records of who sends routes are.
+fn is_announced(config: &Config, words: Words, base: Base, shown: &Record<'_>) -> bool
+    ensures { IsTrue result → IsAnnounced config.now words base (shown_of shown.now) }
+{
+    match (base.head, *shown) {
+        (Head::Established(link, _), Record::Out(_, octets)) => {
+            words.falls.is_empty() && meets(config, Some(link), Want::CleanUpdate, octets)
+        }
+        _ => false,
+    }
+}
+
 /// What the record makes of all members.
 pub(crate) fn after_record<A: Allocator + Copy>(
     alloc: A,
@@ -138,13 +151,19 @@ pub(crate) fn after_record<A: Allocator + Copy>(
         (IsMember left.words (routes_after (changes_of left.changes) table))) }
     ensures memory { IsErr result → BaseTakesMemory words (shown_of shown.now) }
 {
-    let next = paid(config, words, shown);
     let Some(base) = free_base(words) else {
         return Ok(Left {
-            words: next,
+            words: paid(config, words, shown),
             changes: None,
         });
     };
+    if is_announced(config, words, base, shown) {
+        return Ok(Left {
+            words,
+            changes: None,
+        });
+    }
+    let next = paid(config, words, shown);
     let left = add_base(alloc, config, base, shown, next)?;
     add_delayed(alloc, config, base, shown, left)
 }

@@ -3,6 +3,7 @@ use Rattle.mrt.specs.Reader.{shown_of}
 use Rattle.bgp_machine.specs.declared.fsm.Fsm.{Fsm}
 use Rattle.bgp_machine.specs.Going.{shown_after, told, undelayed}
 use Rattle.bgp_machine.specs.Listed.{changes_of}
+use Rattle.bgp_machine.proofs.Moves.{after_no_changes}
 use Rattle.bgp_rib.specs.Routes.{Routes, AreRoutes, routes_after}
 use Rattle.bgp_judge.specs.Image.{IsImage}
 use Rattle.bgp_judge.proofs.EndLists.{if_ok_weaker}
@@ -10,16 +11,28 @@ use Rattle.bgp_compact.specs.Members.{IsMember}
 use Rattle.bgp_compact.specs.Parts.{AreFine}
 use Rattle.bgp_compact.specs.Standing.{IsTableOf}
 use Rattle.bgp_compact.specs.Steps.{AreBehind, AreMade, AreMadeAt, FromHead, FromLate, Gains}
+use Rattle.bgp_compact.proofs.Announced.{announced_image, announced_made}
 use Rattle.bgp_compact.proofs.Images.{behind_fine, if_ok_both, image_none, image_some, paid_behind, paid_fine}
 use Rattle.bgp_compact.proofs.Ways.{fsm_undelayed}
 use Rattle.bgp_compact.proofs.taking.after_record.Goals as goal
 
 pub returns-in_default-clause-fine : goal.returns-in_default-clause-fine
-returns-in_default-clause-fine g c = paid_fine c.args.config.now c.args.words (shown_of c.args.shown.now) c.paid-next.result c.requires c.paid-next.ensures
+returns-in_default-clause-fine g c = paid_fine c.args.config.now c.args.words (shown_of c.args.shown.now) c.paid.result c.requires c.paid.ensures
 
 pub returns-in_default-clause-image : goal.returns-in_default-clause-image
 returns-in_default-clause-image g c = λ table of.
-    image_none c.args.config.now (shown_of c.args.shown.now) c.args.words c.paid-next.result table c.paid-next.ensures c.in_default.ensures
+    image_none c.args.config.now (shown_of c.args.shown.now) c.args.words c.paid.result table c.paid.ensures c.in_default.ensures
+
+pub returns-then-is_announced-clause-image : goal.returns-then-is_announced-clause-image
+returns-then-is_announced-clause-image g c = λ table of.
+    let config = c.args.config.now in
+    let r = shown_of c.args.shown.now in
+    subst (λ (v : Routes). IsImage config r (IsMember c.args.words table) (IsMember c.args.words v)) (sym (after_no_changes table))
+    (announced_image config c.args.words c.in-Some.base r c.in-Some.ensures (c.is_announced.ensures c.if-is_announced.true) table of)
+
+pub returns-then-is_announced-clause-made : goal.returns-then-is_announced-clause-made
+returns-then-is_announced-clause-made g c =
+    announced_made c.args.config.now c.args.words c.in-Some.base (shown_of c.args.shown.now) c.in-Some.ensures (c.is_announced.ensures c.if-is_announced.true)
 
 pub add_base-requires-clause-behind : goal.add_base-requires-clause-behind
 add_base-requires-clause-behind g c =
