@@ -20,6 +20,9 @@ import tempfile
 from collectors import ENDS, HERE, JUDGE, peak, spent
 
 DECODE = ['decode', '--mrt', *ENDS]
+# Judging the end that sends the UPDATEs.
+SENDER = ['judge', '--local-as', '65002', '--peer-as', '65001', '--local-id', '192.0.2.2',
+          '--families', 'both', '--local', '192.0.2.2', '--peer', '192.0.2.1']
 
 
 def least(all_words, runs):
@@ -68,7 +71,7 @@ def main(stream, octets, prefixes, further, recording, runs, *programs):
             compare(name, file, [DECODE, JUDGE], programs, int(runs))
             changes = min(int(subprocess.check_output([table, file])) for _ in range(int(runs)))
             print(f'  the changes in a table of hashes in C: {changes} ms', flush=True)
-        compare('the stream as a recording', packets, [['list'], JUDGE, ['check']], programs,
+        compare('the stream as a recording', packets, [['list'], JUDGE, SENDER, ['check']], programs,
                 int(runs))
 
 
