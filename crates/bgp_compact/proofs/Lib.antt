@@ -16,6 +16,7 @@ pub mod Listing
 pub mod Images
 pub mod Making
 pub mod Announced
+pub mod Applied
 pub mod Behind
 pub mod Refusals
 pub mod OneTable

@@ -4,4 +4,5 @@ pub mod Table
 pub mod Standing
 pub mod Parts
 pub mod Steps
+pub mod Applied
 pub mod Memory

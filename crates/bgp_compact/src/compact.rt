@@ -17,6 +17,7 @@ ghost use Rattle.bgp_compact.specs.Parts.{AreFine};
 ghost use Rattle.bgp_compact.specs.Standing.{fresh_words};
 ghost use Rattle.bgp_compact.specs.Table.{IsTableMade};
 
+use crate::applying::applied;
 use crate::base::free_base;
 use crate::disabled::DisabledSets;
 use crate::ending::ends_of;
@@ -137,6 +138,11 @@ impl<A: Allocator + Copy> Tracker<A> for CompactTracker<A> {
             → OnErr result (TakesMemory config records (shown_of shown.now)) }
     {
         each_owed_want_can_be_met();
+        if let Some(update) = applied(self.alloc, &self.config, &self.words, shown)? {
+            self.table.apply(&update.changes)?;
+            self.words.apply(update.head);
+            return Ok(true);
+        }
         let left = after_record(self.alloc, &self.config, self.words, shown)?;
         if !is_alive(left.words) {
             return Ok(false);

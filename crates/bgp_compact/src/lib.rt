@@ -2,6 +2,7 @@
 //! fixed number of words beside it.
 #![tactic(auto)]
 
+mod applying;
 mod base;
 mod beginning;
 mod changing;
