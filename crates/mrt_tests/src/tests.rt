@@ -15,6 +15,15 @@ use std::io;
 use std::io::{ErrorKind, Read, Write};
 use std::num::NonZeroUsize;
 
+/// The octets of these pieces; `None` where memory is refused.
+fn joined(alloc: Global, pieces: &[&[u8]]) -> Option<Vec<u8>> {
+    let mut octets = Vec::new(alloc);
+    for piece in pieces {
+        octets.extend_from_slice(piece).ok()?;
+    }
+    Some(octets)
+}
+
 /// Whether a device answers so to one call: by a digit, which says how many octets, or `!` where it
 /// fails.
 fn is_answer(answer: Result<usize, Failed>, wanted: u8) -> bool {

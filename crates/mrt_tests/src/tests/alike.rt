@@ -1,8 +1,8 @@
 //! Of `mrt_sessions`: whether a file is read, too, where the local system offers no extended
 //! messages, and whether a session has just some records.
 
-use super::captures::{CHANGE, RECEIVED, SESSION};
-use super::extended::{message, message_front, record};
+use super::captures::{CHANGE, KEPT_ALIVE, RECEIVED, SESSION};
+use super::extended::record;
 use super::refreshes::session_with;
 use super::*;
 use bgp_prefix::{Address, Session};
@@ -14,17 +14,16 @@ use mrt_sessions::{reads_as, records_in};
 type Body = (u8, u8, u8, u32);
 
 /// A change of the session of 192.0.2.1 with 192.0.2.2, and then this record of one with 192.0.2.x.
-fn file_with(alloc: Global, (kind, subtype, peer, count): Body) -> Result<Vec<u8>, AllocError> {
-    let mut octets = CHANGE.to_vec(alloc)?;
-    octets.extend_from_slice(&[0x00, 0x00, 0x00, 0x65, 0x00, kind, 0x00, subtype])?;
-    octets.extend_from_slice(&count.to_be_bytes())?;
-    octets.extend_from_slice(&[
+fn file_with(alloc: Global, (kind, subtype, peer, count): Body) -> Option<Vec<u8>> {
+    let header = [0x00, 0x00, 0x00, 0x65, 0x00, kind, 0x00, subtype];
+    let numbers = [
         0x00, 0x00, 0xfd, 0xea, 0x00, 0x00, 0xfd, 0xe9, // AS numbers
         0x00, 0x00, 0x00, 0x01, // interface index, AFI
         0xc0, 0x00, 0x02, peer, 0xc0, 0x00, 0x02, 0x01, // peer and local address
-    ])?;
-    octets.resize(48 + count as usize, 0)?;
-    Ok(octets)
+    ];
+    let mut octets = joined(alloc, &[&CHANGE, &header, &count.to_be_bytes(), &numbers])?;
+    octets.resize(48 + count as usize, 0).ok()?;
+    Some(octets)
 }
 
 /// A record, and whether the file is plain that has it: one of the session, of another session, of
@@ -38,11 +37,17 @@ static BODIES: [(Body, bool); 6] = [
     ((13, 4, 2, 8193), true),
 ];
 
-/// Whether that is told, of a file that is read to its end.
+/// Whether these octets are read to their end, as a plain file or another.
+fn is_plain_read(alloc: Global, octets: &[u8], is_plain: bool) -> bool {
+    match records_in(alloc, octets) {
+        Ok(file) => file.refusal.is_none() && file.is_plain == is_plain,
+        Err(AllocError) => false,
+    }
+}
+
+/// Whether that is told.
 fn is_plain_told(alloc: Global, (body, is_plain): &(Body, bool)) -> Option<bool> {
-    let octets = file_with(alloc, *body).ok()?;
-    let file = records_in(alloc, octets.as_slice()).ok()?;
-    Some(file.refusal.is_none() && file.is_plain == *is_plain)
+    Some(is_plain_read(alloc, &file_with(alloc, *body)?, *is_plain))
 }
 
 #[test]
@@ -89,10 +94,9 @@ fn is_list_told(
     alloc: Global,
     (is_other, records, is_so): &(bool, &[Record<'_>], bool),
 ) -> Option<bool> {
-    let mut octets = CHANGE.to_vec(alloc).ok()?;
-    octets.extend_from_slice(&RECEIVED).ok()?;
+    let octets = joined(alloc, &[&CHANGE, &RECEIVED])?;
     let session = if *is_other { &OTHER } else { &SESSION };
-    Some(is_read(alloc, session, octets.as_slice(), records) == *is_so)
+    Some(is_read(alloc, session, &octets, records) == *is_so)
 }
 
 #[test]
@@ -102,35 +106,43 @@ fn a_session_has_just_its_records(rt: HostRuntime) {
     }
 }
 
+/// A ROUTE-REFRESH of 23 octets.
+static REFRESH: [u8; 23] = [
+    255, 255, 255, 255, 255, 255, 255, 255, 255, 255, 255, 255, 255, 255, 255, 255, // marker
+    0x00, 0x17, 0x05, // Length and type of the message
+    0x00, 0x00, 0x00, 0x00,
+];
+
 /// The octets of a change, a ROUTE-REFRESH and a KEEPALIVE.
-fn file_of(alloc: Global, refresh: &[u8]) -> Result<Vec<u8>, AllocError> {
-    let mut octets = CHANGE.to_vec(alloc)?;
-    octets.extend_from_slice(record(alloc, 4, 43, refresh)?.as_slice())?;
-    octets.extend_from_slice(&RECEIVED)?;
-    Ok(octets)
+fn file_of(alloc: Global, refresh: &[u8]) -> Option<Vec<u8>> {
+    let record = record(alloc, 4, 43, refresh)?;
+    joined(alloc, &[&CHANGE, &record, &RECEIVED])
 }
 
-/// Whether a session reads a ROUTE-REFRESH of 23 octets, the first octet of whose marker is this,
-/// between a change and a KEEPALIVE, as a record; and whether it passes over it.
+/// Whether a session reads [`REFRESH`], the first octet of whose marker is this, between a change
+/// and a KEEPALIVE, as a record; and whether it passes over it.
 fn is_refresh_read(alloc: Global, session: &Session, marker: u8) -> Option<(bool, bool)> {
-    let mut front = message_front(23, 5);
-    front[0] = marker;
-    let refresh = message(alloc, &front, 23).ok()?;
-    let file = file_of(alloc, refresh.as_slice()).ok()?;
-    let all = [CHANGED, Record::In(101, refresh.as_slice()), KEPT];
+    let mut refresh = REFRESH;
+    refresh[0] = marker;
+    let file = file_of(alloc, &refresh)?;
+    let all = [CHANGED, Record::In(101, &refresh), KEPT_ALIVE];
     Some((
-        is_read(alloc, session, file.as_slice(), &all),
-        is_read(alloc, session, file.as_slice(), &[CHANGED, KEPT]),
+        is_read(alloc, session, &file, &all),
+        is_read(alloc, session, &file, &[CHANGED, KEPT_ALIVE]),
     ))
+}
+
+/// Whether a ROUTE-REFRESH is passed over or kept or refused, each where it is to be.
+fn are_refreshes_read(alloc: Global) -> bool {
+    let passing = session_with(true, false);
+    let without = session_with(false, false);
+    is_refresh_read(alloc, &passing, 255) == Some((false, true))
+        && is_refresh_read(alloc, &passing, 254) == Some((true, false))
+        && is_refresh_read(alloc, &without, 255) == Some((true, false))
+        && is_refresh_read(alloc, &SESSION, 255) == Some((false, false))
 }
 
 #[test]
 fn a_refresh_is_passed_over_or_kept_or_refused(rt: HostRuntime) {
-    let passing = session_with(true, false);
-    let without = session_with(false, false);
-    let is_passed_over = is_refresh_read(rt.alloc(), &passing, 255) == Some((false, true));
-    let is_faulty = is_refresh_read(rt.alloc(), &passing, 254) == Some((true, false));
-    let is_kept = is_refresh_read(rt.alloc(), &without, 255) == Some((true, false));
-    let is_refused = is_refresh_read(rt.alloc(), &SESSION, 255) == Some((false, false));
-    assert!(rt; is_passed_over && is_faulty && is_kept && is_refused);
+    assert!(rt; are_refreshes_read(rt.alloc()));
 }

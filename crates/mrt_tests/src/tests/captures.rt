@@ -6,7 +6,7 @@ use bgp_prefix::{Address, RouteRefresh, Session};
 use bgp_wire::vectors::KEEPALIVE;
 
 /// The session of 192.0.2.1 with 192.0.2.2, which may have route refresh.
-pub(crate) const SESSION: Session = Session {
+pub(crate) static SESSION: Session = Session {
     peer: Address::V4(0xc000_0202),
     local: Address::V4(0xc000_0201),
     refresh: RouteRefresh::Refused,
@@ -14,7 +14,7 @@ pub(crate) const SESSION: Session = Session {
 };
 
 /// A change from Idle to Connect at second 100.
-pub(crate) const CHANGE: [u8; 36] = [
+pub(crate) static CHANGE: [u8; 36] = [
     0x00, 0x00, 0x00, 0x64, // Timestamp
     0x00, 0x10, 0x00, 0x05, // BGP4MP, STATE_CHANGE_AS4
     0x00, 0x00, 0x00, 0x18, // Length
@@ -25,7 +25,7 @@ pub(crate) const CHANGE: [u8; 36] = [
 ];
 
 /// A KEEPALIVE that was received at second 101.
-pub(crate) const RECEIVED: [u8; 51] = [
+pub(crate) static RECEIVED: [u8; 51] = [
     0x00, 0x00, 0x00, 0x65, 0x00, 0x10, 0x00, 0x04, 0x00, 0x00, 0x00, 0x27, // header
     0x00, 0x00, 0xfd, 0xea, 0x00, 0x00, 0xfd, 0xe9, 0x00, 0x00, 0x00, 0x01, // numbers
     0xc0, 0x00, 0x02, 0x02, 0xc0, 0x00, 0x02, 0x01, // addresses
@@ -34,20 +34,14 @@ pub(crate) const RECEIVED: [u8; 51] = [
     0x00, 0x13, 0x04, // Length and type of the message
 ];
 
-/// A capture of these records.
-fn capture_of(alloc: Global, records: &[&[u8]]) -> Result<Vec<u8>, AllocError> {
-    let mut capture = Vec::new(alloc);
-    for octets in records {
-        capture.extend_from_slice(octets)?;
-    }
-    Ok(capture)
-}
-
 /// What a reader answers.
 pub(crate) type Next<'a> = Result<Option<Record<'a>>, CaptureFault>;
 
+/// The record of [`RECEIVED`].
+pub(crate) static KEPT_ALIVE: Record<'static> = Record::In(101, &KEEPALIVE);
+
 /// The record of [`CHANGE`].
-pub(crate) const CHANGED: Next<'static> = Ok(Some(Record::Change(100, 1, 2)));
+pub(crate) static CHANGED: Next<'static> = Ok(Some(Record::Change(100, 1, 2)));
 
 /// Whether that is the next answer, of a reader and a source that belong together.
 pub(crate) fn is_next<A: Allocator + Copy>(
@@ -61,28 +55,32 @@ pub(crate) fn is_next<A: Allocator + Copy>(
         && reader.next_record(source, session) == *wanted
 }
 
+/// Whether that is the next answer, of the record at this octet, and so many octets were taken.
+fn is_next_at(
+    reader: &mut Reader,
+    source: &mut MemSource,
+    wanted: &Next<'_>,
+    place: u64,
+    given: usize,
+) -> bool {
+    is_next(reader, source, &SESSION, wanted) && reader.place() == place && source.given() == given
+}
+
 /// Whether no octet is taken beyond the record that is answered.
 fn are_taken_by_record(reader: &mut Reader, source: &mut MemSource) -> bool {
-    let received = Ok(Some(Record::In(101, &KEEPALIVE)));
-    let is_at_first = reader.place() == 0
-        && is_next(reader, source, &SESSION, &CHANGED)
-        && source.given() == 36;
-    let is_at_second = is_at_first
-        && is_next(reader, source, &SESSION, &received)
-        && reader.place() == 36
-        && source.given() == 87;
-    is_at_second
-        && is_next(reader, source, &SESSION, &Ok(None))
-        && reader.place() == 87
+    reader.place() == 0
+        && is_next_at(reader, source, &CHANGED, 0, 36)
+        && is_next_at(reader, source, &Ok(Some(KEPT_ALIVE)), 36, 87)
+        && is_next_at(reader, source, &Ok(None), 87, 87)
         && reader.has_answered()
         && reader.first_other().is_none()
 }
 
 /// Whether a reader of [`CHANGE`] and [`RECEIVED`] takes no octet after the record that it answers.
 fn are_read_one_by_one(alloc: Global) -> bool {
-    match capture_of(alloc, &[&CHANGE, &RECEIVED]) {
-        Ok(capture) => are_taken_by_record(&mut Reader::new(alloc), &mut MemSource::new(capture)),
-        Err(_) => false,
+    match joined(alloc, &[&CHANGE, &RECEIVED]) {
+        Some(capture) => are_taken_by_record(&mut Reader::new(alloc), &mut MemSource::new(capture)),
+        None => false,
     }
 }
 
@@ -105,9 +103,12 @@ fn keeps_the_first_other(reader: &mut Reader, source: &mut MemSource) -> bool {
 
 /// Whether it does, of a capture of [`CHANGE`] and [`RECEIVED`].
 fn is_the_first_other_kept(alloc: Global) -> bool {
-    match capture_of(alloc, &[&CHANGE, &RECEIVED]) {
-        Ok(capture) => keeps_the_first_other(&mut Reader::new(alloc), &mut MemSource::new(capture)),
-        Err(_) => false,
+    match joined(alloc, &[&CHANGE, &RECEIVED]) {
+        Some(capture) => keeps_the_first_other(
+            &mut Reader::new(alloc),
+            &mut MemSource::new(capture),
+        ),
+        None => false,
     }
 }
 
@@ -118,31 +119,48 @@ fn change_of(peer: u8) -> [u8; 36] {
     change
 }
 
-/// Whether a reader of [`SESSION`] that has skipped records of these peers has kept their first
-/// ones, each once, in their order.
-fn keeps_others(alloc: Global, peers: &[u8], kept: &[u8]) -> bool {
+/// The records of these peers; `None` where memory is refused.
+fn changes_of(alloc: Global, peers: &[u8]) -> Option<Vec<u8>> {
     let mut capture = Vec::new(alloc);
     for peer in peers {
-        if capture.extend_from_slice(&change_of(*peer)).is_err() {
+        capture.extend_from_slice(&change_of(*peer)).ok()?;
+    }
+    Some(capture)
+}
+
+/// The addresses of this peer's record.
+fn ends_of(peer: Option<&u8>) -> Option<Endpoints> {
+    match peer {
+        Some(peer) => Some(Endpoints {
+            peer: Address::V4(0xc000_0200 + u32::from(*peer)),
+            local: SESSION.local,
+        }),
+        None => None,
+    }
+}
+
+/// Whether just these peers' addresses are in the first places.
+fn are_kept(others: &[Option<Endpoints>], kept: &[u8]) -> bool {
+    for (index, other) in others.iter().enumerate() {
+        if *other != ends_of(kept.get(index)) {
             return false;
         }
     }
-    let mut reader = Reader::new(alloc);
-    if !is_next(
-        &mut reader,
-        &mut MemSource::new(capture),
-        &SESSION,
-        &Ok(None),
-    ) {
-        return false;
+    true
+}
+
+/// Whether a reader of [`SESSION`] that has skipped the records of a capture, all of other peers,
+/// has kept these first ones, each once, in their order.
+fn keeps(reader: &mut Reader, source: &mut MemSource, kept: &[u8]) -> bool {
+    is_next(reader, source, &SESSION, &Ok(None)) && are_kept(&reader.others(), kept)
+}
+
+/// Whether a reader does, of the records of these peers.
+fn keeps_others(alloc: Global, peers: &[u8], kept: &[u8]) -> bool {
+    match changes_of(alloc, peers) {
+        Some(capture) => keeps(&mut Reader::new(alloc), &mut MemSource::new(capture), kept),
+        None => false,
     }
-    reader.others().iter().enumerate().all(|(index, other)| {
-        let wanted = kept.get(index).map(|peer| Endpoints {
-            peer: Address::V4(0xc000_0200 + u32::from(*peer)),
-            local: SESSION.local,
-        });
-        *other == wanted
-    })
 }
 
 /// The first nine different pairs are kept.
@@ -189,11 +207,12 @@ fn are_answered_with(
     wanted: &Next<'_>,
     given: usize,
 ) -> bool {
-    match (LocalHeap::new(alloc, size), CHANGE.to_vec(alloc)) {
-        (Ok(heap), Ok(capture)) => {
-            are_answered(&heap, &mut MemSource::new(capture), reads, wanted, given)
-        }
-        _ => false,
+    let Ok(capture) = CHANGE.to_vec(alloc) else {
+        return false;
+    };
+    match LocalHeap::new(alloc, size) {
+        Ok(heap) => are_answered(&heap, &mut MemSource::new(capture), reads, wanted, given),
+        Err(_) => false,
     }
 }
 

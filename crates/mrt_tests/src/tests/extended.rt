@@ -16,7 +16,7 @@ fn session_of(is_v6: bool, extended: bool) -> Session {
 }
 
 /// What stands before the message in the body of a record of that session.
-const NUMBERS: [u8; 20] = [
+static NUMBERS: [u8; 20] = [
     0x00, 0x00, 0xfd, 0xea, 0x00, 0x00, 0xfd, 0xe9, // AS numbers
     0x00, 0x00, 0x00, 0x01, // interface index, AFI
     0xc0, 0x00, 0x02, 0x02, 0xc0, 0x00, 0x02, 0x01, // peer and local address
@@ -31,28 +31,19 @@ pub(crate) fn message_front(length: u16, code: u8) -> [u8; 19] {
     ]
 }
 
-/// A message with this front, of so many octets; the others are zeros.
-pub(crate) fn message(alloc: Global, front: &[u8], count: usize) -> Result<Vec<u8>, AllocError> {
-    let mut octets = Vec::new(alloc);
-    octets.extend_from_slice(front)?;
-    octets.resize(count, 0)?;
-    Ok(octets)
+/// A message with this front, of so many octets; the others are zeros. `None` where memory is
+/// refused, here and below.
+pub(crate) fn message(alloc: Global, front: &[u8], count: usize) -> Option<Vec<u8>> {
+    let mut octets = front.to_vec(alloc).ok()?;
+    octets.resize(count, 0).ok()?;
+    Some(octets)
 }
 
 /// A record of second 101 and this subtype of BGP4MP, whose body is said to have so many octets and
 /// has [`NUMBERS`] and this message.
-pub(crate) fn record(
-    alloc: Global,
-    subtype: u8,
-    count: u32,
-    message: &[u8],
-) -> Result<Vec<u8>, AllocError> {
-    let mut octets = Vec::new(alloc);
-    octets.extend_from_slice(&[0x00, 0x00, 0x00, 0x65, 0x00, 0x10, 0x00, subtype])?;
-    octets.extend_from_slice(&count.to_be_bytes())?;
-    octets.extend_from_slice(&NUMBERS)?;
-    octets.extend_from_slice(message)?;
-    Ok(octets)
+pub(crate) fn record(alloc: Global, subtype: u8, count: u32, message: &[u8]) -> Option<Vec<u8>> {
+    let front = [0x00, 0x00, 0x00, 0x65, 0x00, 0x10, 0x00, subtype];
+    joined(alloc, &[&front, &count.to_be_bytes(), &NUMBERS, message])
 }
 
 /// Whether that is answered of a capture of one record, or this fault where there is one.
@@ -71,61 +62,70 @@ fn is_answered(
     is_next(&mut reader, &mut source, session, &wanted)
 }
 
-/// Whether messages are extended, and how many octets a body has, which isn't too long.
-static BODIES: [(bool, u32); 4] = [(false, 8192), (true, 8192), (true, 8193), (true, 65583)];
-
-/// Whether a body of so many octets, whose message has no marker, is read.
-fn is_body_read(alloc: Global, (extended, count): &(bool, u32)) -> Option<bool> {
-    let message = message(alloc, &[], count.saturating_sub(20) as usize).ok()?;
-    let capture = record(alloc, 4, *count, &message).ok()?;
-    let session = session_of(false, *extended);
-    let shown = Record::In(101, &message);
-    Some(is_answered(alloc, &session, capture, &shown, None))
-}
-
 /// Whether messages are extended, a message's Type and Length, how many octets it has, and whether
-/// that is refused: it is where the header is sound by the session's limit.
-static MESSAGES: [(bool, u8, u16, u16, bool); 9] = [
-    (false, 2, 4096, 4097, true),
-    (false, 2, 4097, 4097, false),
-    (false, 2, 4097, 4098, false),
-    (true, 2, 4097, 4097, false),
-    (true, 2, 4097, 4098, true),
-    (true, 3, 4097, 4096, true),
-    (true, 2, 65535, 65535, false),
-    (true, 2, 65535, 65534, true),
-    (true, 1, 4097, 4098, false),
+/// that is refused.
+type Message = (bool, Option<(u8, u16)>, u32, bool);
+
+/// It is where the header is sound by the session's limit. The messages without a header have
+/// bodies of 8192, 8193 and 65583 octets, which aren't too long.
+static MESSAGES: [Message; 13] = [
+    (false, None, 8172, false),
+    (true, None, 8172, false),
+    (true, None, 8173, false),
+    (true, None, 65563, false),
+    (false, Some((2, 4096)), 4097, true),
+    (false, Some((2, 4097)), 4097, false),
+    (false, Some((2, 4097)), 4098, false),
+    (true, Some((2, 4097)), 4097, false),
+    (true, Some((2, 4097)), 4098, true),
+    (true, Some((3, 4097)), 4096, true),
+    (true, Some((2, 65535)), 65535, false),
+    (true, Some((2, 65535)), 65534, true),
+    (true, Some((1, 4097)), 4098, false),
 ];
 
-/// Whether the message is read or refused, where it was received, or where it was sent.
-fn is_message_read(
+/// A message's first octets: zeros where it has no header.
+fn front_of(header: Option<(u8, u16)>) -> [u8; 19] {
+    match header {
+        Some((code, length)) => message_front(length, code),
+        None => [0; 19],
+    }
+}
+
+/// Whether a message that was received or sent is read or refused.
+fn is_record_read(
     alloc: Global,
     is_sent: bool,
-    (extended, code, length, count, is_refused): &(bool, u8, u16, u16, bool),
+    (extended, _, count, is_refused): &Message,
+    message: &[u8],
 ) -> Option<bool> {
-    let message = message(alloc, &message_front(*length, *code), usize::from(*count)).ok()?;
-    let subtype = if is_sent { 7 } else { 4 };
-    let capture = record(alloc, subtype, u32::from(*count) + 20, &message).ok()?;
+    let (subtype, shown) = if is_sent {
+        (7, Record::Out(101, message))
+    } else {
+        (4, Record::In(101, message))
+    };
+    let capture = record(alloc, subtype, count.saturating_add(20), message)?;
     let session = session_of(false, *extended);
     let fault = is_refused.then_some(FaultKind::NotAMessage);
-    let shown = if is_sent {
-        Record::Out(101, &message)
-    } else {
-        Record::In(101, &message)
-    };
     Some(is_answered(alloc, &session, capture, &shown, fault))
+}
+
+/// Whether it is, received and sent.
+fn is_message_read(alloc: Global, row: &Message) -> bool {
+    match message(alloc, &front_of(row.1), row.2 as usize) {
+        Some(octets) => {
+            is_record_read(alloc, false, row, &octets) == Some(true)
+                && is_record_read(alloc, true, row, &octets) == Some(true)
+        }
+        None => false,
+    }
 }
 
 /// And a body has 8192 octets, or 65583 where messages are extended.
 #[test]
 fn a_sound_length_is_the_count_of_the_octets(rt: HostRuntime) {
-    for (row, body) in BODIES.iter().enumerate() {
-        assert!(rt; is_body_read(rt.alloc(), body) == Some(true), "body {row}");
-    }
     for (row, message) in MESSAGES.iter().enumerate() {
-        let is_received = is_message_read(rt.alloc(), false, message) == Some(true);
-        let is_sent = is_message_read(rt.alloc(), true, message) == Some(true);
-        assert!(rt; is_received && is_sent, "row {row}");
+        assert!(rt; is_message_read(rt.alloc(), message), "row {row}");
     }
 }
 
@@ -176,18 +176,23 @@ fn what_is_too_long_to_read_is_not_writable(rt: HostRuntime) {
     assert!(rt; are_told(rt.alloc()) == Some(true) && !is_mixed);
 }
 
-/// Whether an UPDATE of 65535 octets is read as it was written.
-fn is_read_back(alloc: Global) -> Option<bool> {
-    let message = message(alloc, &message_front(65535, 2), 65535).ok()?;
-    let sent = Record::Out(101, &message);
+/// Whether a record of a session with extended messages is read as it was written.
+fn is_read_as_written(alloc: Global, sent: &Record<'_>) -> bool {
     let session = session_of(false, true);
     let mut sink = MemSink::new(alloc);
-    let is_written = answers(&mut sink, &session, &sent, Ok(()));
-    let capture = sink.octets().to_vec(alloc).ok()?;
-    Some(is_written && is_answered(alloc, &session, capture, &sent, None))
+    let is_written = answers(&mut sink, &session, sent, Ok(()));
+    is_answered(alloc, &session, sink.into_octets(), sent, None) && is_written
+}
+
+/// Whether an UPDATE of 65535 octets is.
+fn is_read_back(alloc: Global) -> bool {
+    match message(alloc, &message_front(65535, 2), 65535) {
+        Some(message) => is_read_as_written(alloc, &Record::Out(101, &message)),
+        None => false,
+    }
 }
 
 #[test]
 fn the_longest_message_is_read_as_it_was_written(rt: HostRuntime) {
-    assert!(rt; is_read_back(rt.alloc()) == Some(true));
+    assert!(rt; is_read_back(rt.alloc()));
 }

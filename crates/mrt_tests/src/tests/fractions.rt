@@ -2,20 +2,19 @@
 
 use super::captures::{CHANGE, CHANGED, SESSION, is_next};
 use super::*;
-use mrt_sessions::records_in;
+use mrt_sessions::{FileRecords, records_in};
 
-/// [`CHANGE`] as a record of type BGP4MP_ET that has these microseconds, and then [`CHANGE`].
-fn two_changes(alloc: Global, microseconds: u32) -> Result<Vec<u8>, AllocError> {
-    let mut octets = Vec::new(alloc);
-    octets.extend_from_slice(&[
-        0x00, 0x00, 0x00, 0x64, // Timestamp
-        0x00, 0x11, 0x00, 0x05, // BGP4MP_ET, STATE_CHANGE_AS4
-        0x00, 0x00, 0x00, 0x1c, // Length
-    ])?;
-    octets.extend_from_slice(&microseconds.to_be_bytes())?;
-    octets.extend_from_slice(&CHANGE[12..])?;
-    octets.extend_from_slice(&CHANGE)?;
-    Ok(octets)
+/// The header of [`CHANGE`] as a record of type BGP4MP_ET.
+const HEADER: [u8; 12] = [
+    0x00, 0x00, 0x00, 0x64, // Timestamp
+    0x00, 0x11, 0x00, 0x05, // BGP4MP_ET, STATE_CHANGE_AS4
+    0x00, 0x00, 0x00, 0x1c, // Length
+];
+
+/// That record with these microseconds, and then [`CHANGE`].
+fn two_changes(alloc: Global, microseconds: u32) -> Option<Vec<u8>> {
+    let micro = microseconds.to_be_bytes();
+    joined(alloc, &[&HEADER, &micro, &CHANGE[12..], &CHANGE])
 }
 
 /// Microseconds of a record, and its fraction.
@@ -27,34 +26,43 @@ static FRACTIONS: [(u32, Option<u32>); 5] = [
     (u32::MAX, None),
 ];
 
-/// Whether a reader tells that fraction of the first record, and of the second one none.
-fn is_told(alloc: Global, (microseconds, micro): &(u32, Option<u32>)) -> bool {
-    let Ok(octets) = two_changes(alloc, *microseconds) else {
-        return false;
-    };
-    let mut reader = Reader::new(alloc);
-    let mut source = MemSource::new(octets);
+/// Whether a reader tells this fraction of the first record, and of the second one none.
+fn tells(reader: &mut Reader, source: &mut MemSource, micro: Option<u32>) -> bool {
     reader.micro().is_none()
-        && is_next(&mut reader, &mut source, &SESSION, &CHANGED)
-        && reader.micro() == *micro
-        && is_next(&mut reader, &mut source, &SESSION, &CHANGED)
+        && is_next(reader, source, &SESSION, &CHANGED)
+        && reader.micro() == micro
+        && is_next(reader, source, &SESSION, &CHANGED)
         && reader.micro().is_none()
 }
 
-/// Whether the records of the file tell the same.
-fn are_told(alloc: Global, (microseconds, micro): &(u32, Option<u32>)) -> Option<bool> {
-    let octets = two_changes(alloc, *microseconds).ok()?;
-    let file = records_in(alloc, octets.as_slice()).ok()?;
-    let [first, second] = file.records.as_slice() else {
-        return None;
+/// Whether the records of a file tell the same.
+fn tell(file: &FileRecords<'_>, micro: Option<u32>) -> bool {
+    match file.records.as_slice() {
+        [first, second] => first.micro() == micro && second.micro().is_none(),
+        _ => false,
+    }
+}
+
+/// Whether both are so, of a reader of these octets and of the file that they are.
+fn is_told(alloc: Global, octets: Vec<u8>, micro: Option<u32>) -> bool {
+    let is_in_file = match records_in(alloc, octets.as_slice()) {
+        Ok(file) => tell(&file, micro),
+        Err(AllocError) => false,
     };
-    Some(first.micro() == *micro && second.micro().is_none())
+    is_in_file && tells(&mut Reader::new(alloc), &mut MemSource::new(octets), micro)
+}
+
+/// Whether both are, where a record has so many microseconds.
+fn are_told(alloc: Global, (microseconds, micro): &(u32, Option<u32>)) -> bool {
+    match two_changes(alloc, *microseconds) {
+        Some(octets) => is_told(alloc, octets, *micro),
+        None => false,
+    }
 }
 
 #[test]
 fn a_record_of_type_17_has_a_fraction(rt: HostRuntime) {
     for (row, fraction) in FRACTIONS.iter().enumerate() {
-        assert!(rt; is_told(rt.alloc(), fraction), "row {row}");
-        assert!(rt; are_told(rt.alloc(), fraction) == Some(true), "row {row}");
+        assert!(rt; are_told(rt.alloc(), fraction), "row {row}");
     }
 }

@@ -11,25 +11,23 @@ use bgp_prefix::{RouteRefresh, Session};
 /// how many octets it has.
 type Message = (u8, u8, u16, u16);
 
-/// Whether the session offers extended messages (RFC 8654), and a message that is passed over.
-static PASSED_OVER: [(bool, Message); 5] = [
-    (false, (4, 255, 23, 23)),
-    (false, (7, 255, 23, 23)),
-    (false, (4, 255, 19, 19)),
-    (false, (4, 255, 4096, 4096)),
-    (true, (7, 255, 4096, 4096)),
-];
-
 /// Whether whole messages are passed over, or the session has no route refresh; whether it offers
-/// extended messages; and a message that is a record.
-static SHOWN: [(bool, bool, Message); 7] = [
-    (true, false, (4, 255, 4097, 4097)),
-    (true, true, (4, 255, 4097, 4097)),
-    (true, false, (4, 254, 23, 23)),
-    (true, false, (4, 255, 24, 23)),
-    (true, false, (4, 255, 22, 23)),
-    (true, false, (4, 255, 18, 19)),
-    (false, false, (4, 255, 23, 23)),
+/// extended messages (RFC 8654); a message, and whether it is passed over, or is a record.
+type Row = (bool, bool, Message, bool);
+
+static ROWS: [Row; 12] = [
+    (true, false, (4, 255, 23, 23), true),
+    (true, false, (7, 255, 23, 23), true),
+    (true, false, (4, 255, 19, 19), true),
+    (true, false, (4, 255, 4096, 4096), true),
+    (true, true, (7, 255, 4096, 4096), true),
+    (true, false, (4, 255, 4097, 4097), false),
+    (true, true, (4, 255, 4097, 4097), false),
+    (true, false, (4, 254, 23, 23), false),
+    (true, false, (4, 255, 24, 23), false),
+    (true, false, (4, 255, 22, 23), false),
+    (true, false, (4, 255, 18, 19), false),
+    (false, false, (4, 255, 23, 23), false),
 ];
 
 /// The session, where such messages are passed over, or where it offers no route refresh.
@@ -72,59 +70,51 @@ fn is_first(
 }
 
 /// The octets of a message.
-fn octets_of(alloc: Global, (_, marker, length, count): &Message) -> Result<Vec<u8>, AllocError> {
+fn octets_of(alloc: Global, (_, marker, length, count): &Message) -> Option<Vec<u8>> {
     let mut front = message_front(*length, 5);
     front[0] = *marker;
     message(alloc, &front, usize::from(*count))
 }
 
 /// Those of its record at second 101 with a change after it, which is of second 100.
-fn capture_with(
+fn capture_with(alloc: Global, octets: &[u8], message: &Message) -> Option<Vec<u8>> {
+    let record = record(alloc, message.0, 20 + u32::from(message.3), octets)?;
+    joined(alloc, &[&record, &CHANGE])
+}
+
+/// Whether a message with these octets is passed over and counted, or is a record.
+fn is_row_told(
     alloc: Global,
+    (is_passing, extended, message, is_passed_over): &Row,
     octets: &[u8],
-    (subtype, _, _, count): &Message,
-) -> Result<Vec<u8>, AllocError> {
-    let mut capture = record(alloc, *subtype, 20 + u32::from(*count), octets)?;
-    capture.extend_from_slice(&CHANGE)?;
-    Ok(capture)
-}
-
-/// Whether a message is passed over and counted.
-fn is_passed_over(alloc: Global, (extended, message): &(bool, Message)) -> Option<bool> {
-    let octets = octets_of(alloc, message).ok()?;
-    let place = 32 + octets.len() as u64;
-    let capture = capture_with(alloc, &octets, message).ok()?;
-    let session = session_with(true, *extended);
-    let is_sent = message.0 == 7;
-    let skipped = refreshes(u64::from(!is_sent), u64::from(is_sent));
-    Some(is_first(alloc, &session, capture, &CHANGED, place, skipped))
-}
-
-/// Whether a message is a record.
-fn is_shown(
-    alloc: Global,
-    (is_passing, extended, message): &(bool, bool, Message),
 ) -> Option<bool> {
-    let octets = octets_of(alloc, message).ok()?;
-    let capture = capture_with(alloc, &octets, message).ok()?;
+    let (wanted, place, skipped) = if *is_passed_over {
+        let is_sent = message.0 == 7;
+        let skipped = refreshes(u64::from(!is_sent), u64::from(is_sent));
+        (CHANGED, 32 + octets.len() as u64, skipped)
+    } else {
+        (Ok(Some(Record::In(101, octets))), 0, refreshes(0, 0))
+    };
     let session = session_with(*is_passing, *extended);
-    let wanted = Ok(Some(Record::In(101, &octets)));
-    Some(is_first(alloc, &session, capture, &wanted, 0, refreshes(0, 0)))
+    let capture = capture_with(alloc, octets, message)?;
+    Some(is_first(alloc, &session, capture, &wanted, place, skipped))
+}
+
+/// Whether the message of a row is.
+fn is_told(alloc: Global, row: &Row) -> Option<bool> {
+    is_row_told(alloc, row, &octets_of(alloc, &row.2)?)
 }
 
 #[test]
 fn whole_refreshes_are_passed_over(rt: HostRuntime) {
-    for (count, row) in PASSED_OVER.iter().enumerate() {
-        assert!(rt; is_passed_over(rt.alloc(), row) == Some(true), "{count}");
-    }
-    for (count, row) in SHOWN.iter().enumerate() {
-        assert!(rt; is_shown(rt.alloc(), row) == Some(true), "shown: {count}");
+    for (count, row) in ROWS.iter().enumerate() {
+        assert!(rt; is_told(rt.alloc(), row) == Some(true), "{count}");
     }
 }
 
 /// A record of another type, one of an unknown subtype, and one of a session between the same
 /// addresses the other way round.
-const OTHERS: [u8; 68] = [
+static OTHERS: [u8; 68] = [
     0x00, 0x00, 0x00, 0x01, 0x00, 0x0d, 0x00, 0x01, 0x00, 0x00, 0x00, 0x02, 0xaa, 0xbb, // type 13
     0x00, 0x00, 0x00, 0x64, 0x00, 0x10, 0x00, 0x02, 0x00, 0x00, 0x00, 0x06, // subtype 2
     0xff, 0xff, 0xff, 0xff, 0xff, 0xff, // its body
@@ -136,8 +126,7 @@ const OTHERS: [u8; 68] = [
 
 /// Whether these are skipped and counted, where a change follows.
 fn are_counted(alloc: Global) -> Option<bool> {
-    let mut capture = OTHERS.to_vec(alloc).ok()?;
-    capture.extend_from_slice(&CHANGE).ok()?;
+    let capture = joined(alloc, &[&OTHERS, &CHANGE])?;
     let skipped = SkippedRecords {
         other_kinds: 2,
         other_sessions: 1,

@@ -1,14 +1,13 @@
 //! Of `mrt_sessions`: which sessions a file has, which records each of them has, and where both
 //! stop.
 
-use super::captures::{CHANGE, RECEIVED};
+use super::captures::{CHANGE, KEPT_ALIVE, RECEIVED};
 use super::*;
 use bgp_prefix::Address;
-use bgp_wire::vectors::KEEPALIVE;
 use mrt_sessions::*;
 
 /// A KEEPALIVE with ADD-PATH (RFC 8050, 3) that 192.0.2.1 received of 192.0.2.9 at second 102.
-const ADD_PATH: [u8; 51] = [
+static ADD_PATH: [u8; 51] = [
     0x00, 0x00, 0x00, 0x66, 0x00, 0x10, 0x00, 0x09, 0x00, 0x00, 0x00, 0x27, // header
     0x00, 0x00, 0xfd, 0xea, 0x00, 0x00, 0xfd, 0xe9, 0x00, 0x00, 0x00, 0x01, // numbers
     0xc0, 0x00, 0x02, 0x09, 0xc0, 0x00, 0x02, 0x01, // addresses
@@ -52,51 +51,49 @@ fn has(
         sent: 0,
         changes,
     };
-    match read_session(alloc, addresses, PLAIN, named) {
-        Ok(read) => {
-            read.records.as_slice() == records && read.fault == fault && Counts::of(named) == counts
+    Counts::of(named) == counts
+        && match read_session(alloc, addresses, PLAIN, named) {
+            Ok(read) => read.records.as_slice() == records && read.fault == fault,
+            Err(AllocError) => false,
         }
-        Err(AllocError) => false,
-    }
 }
 
-/// Whether these octets have both sessions, the second of which is refused at its first record.
-fn are_told(alloc: Global, octets: &[u8]) -> bool {
-    let Ok(file) = records_in(alloc, octets) else {
-        return false;
-    };
-    let Ok(sessions) = Sessions::of(alloc, file.records.as_slice()) else {
-        return false;
-    };
-    let both = [Record::Change(100, 1, 2), Record::In(101, &KEEPALIVE)];
+/// Whether both sessions are told, the second of which is refused at its first record.
+fn are_both_told(alloc: Global, sessions: &Sessions<'_>) -> bool {
+    let both = [Record::Change(100, 1, 2), KEPT_ALIVE];
     let add_path = CaptureFault {
         kind: FaultKind::AddPath,
         offset: 36,
     };
+    sessions.in_order() == [FIRST, SECOND].as_slice()
+        && has(alloc, sessions, FIRST, &both, None, 1, 1)
+        && has(alloc, sessions, SECOND, &[], Some(add_path), 1, 0)
+}
+
+/// Whether a file has both, and its last record is cut short.
+fn are_told(alloc: Global, file: &FileRecords<'_>) -> bool {
     let cut = CaptureFault {
         kind: FaultKind::Truncated,
         offset: 138,
     };
-    sessions.in_order() == [FIRST, SECOND].as_slice()
-        && has(alloc, &sessions, FIRST, &both, None, 1, 1)
-        && has(alloc, &sessions, SECOND, &[], Some(add_path), 1, 0)
-        && file.fault(Ending::End) == Some(cut)
+    match Sessions::of(alloc, file.records.as_slice()) {
+        Ok(sessions) => are_both_told(alloc, &sessions) && file.fault(Ending::End) == Some(cut),
+        Err(AllocError) => false,
+    }
 }
 
-/// Whether they are, of a file whose last record is cut short.
-fn is_file_told(alloc: Global) -> bool {
-    let mut octets = Vec::new(alloc);
-    for record in &[&CHANGE[..], &ADD_PATH, &RECEIVED, &CHANGE[..35]] {
-        if octets.extend_from_slice(record).is_err() {
-            return false;
-        }
+/// Whether that file is told so.
+fn is_file_told(alloc: Global) -> Option<bool> {
+    let octets = joined(alloc, &[&CHANGE, &ADD_PATH, &RECEIVED, &CHANGE[..35]])?;
+    match records_in(alloc, octets.as_slice()) {
+        Ok(file) => Some(are_told(alloc, &file)),
+        Err(AllocError) => None,
     }
-    are_told(alloc, octets.as_slice())
 }
 
 #[test]
 fn sessions_of_a_file_are_told_apart(rt: HostRuntime) {
-    assert!(rt; is_file_told(rt.alloc()));
+    assert!(rt; is_file_told(rt.alloc()) == Some(true));
 }
 
 /// Whether of a source whose call of this number is upset so these octets are held.
@@ -104,11 +101,8 @@ fn is_held(alloc: Global, call: u64, upset: SourceUpset, octets: &[u8], ending: 
     let Ok(change) = CHANGE.to_vec(alloc) else {
         return false;
     };
-    let Some(piece) = NonZeroUsize::new(20) else {
-        return false;
-    };
     let mut source = MemSource::new(change)
-        .in_pieces_of(piece)
+        .in_pieces_of(at_most(20))
         .upset_at(call, upset);
     let held = hold(alloc, &mut source);
     held.octets.as_slice() == octets && held.ending == ending

@@ -1,12 +1,12 @@
 //! Records that are written, octet by octet, and read again.
 
-use super::captures::{CHANGE, RECEIVED, SESSION};
+use super::captures::{CHANGE, KEPT_ALIVE, RECEIVED, SESSION};
 use super::*;
 use bgp_prefix::{Address, RouteRefresh, Session};
 use bgp_wire::vectors::KEEPALIVE;
 
 /// The first octets of a KEEPALIVE that is sent over IPv6 at second 7, up to its message.
-const SENT: [u8; 56] = [
+static SENT: [u8; 56] = [
     0x00, 0x00, 0x00, 0x07, // Timestamp
     0x00, 0x10, 0x00, 0x07, // BGP4MP, MESSAGE_AS4_LOCAL
     0x00, 0x00, 0x00, 0x3f, // Length
@@ -18,7 +18,7 @@ const SENT: [u8; 56] = [
     0x00, 0x00, 0x00, 0x00, 0x00, 0x00, 0x00, 0x01, // local address
 ];
 
-pub(crate) const OVER_IPV6: Session = Session {
+pub(crate) static OVER_IPV6: Session = Session {
     peer: Address::V6(0x2001_0db8_0000_0000_0000_0000_0000_0002),
     local: Address::V6(0x2001_0db8_0000_0000_0000_0000_0000_0001),
     refresh: RouteRefresh::NotOffered,
@@ -54,11 +54,10 @@ fn is_joined(octets: &[u8], parts: &[&[u8]]) -> bool {
 fn are_written(alloc: Global) -> bool {
     let mut sink = MemSink::new(alloc);
     let change = Record::Change(100, 1, 2);
-    let received = Record::In(101, &KEEPALIVE);
     let sent = Record::Out(7, &KEEPALIVE);
     let wanted: [&[u8]; 4] = [&CHANGE, &RECEIVED, &SENT, &KEEPALIVE];
     answers(&mut sink, &SESSION, &change, Ok(()))
-        && answers(&mut sink, &SESSION, &received, Ok(()))
+        && answers(&mut sink, &SESSION, &KEPT_ALIVE, Ok(()))
         && answers(&mut sink, &OVER_IPV6, &sent, Ok(()))
         && is_joined(sink.octets(), &wanted)
 }
@@ -68,8 +67,7 @@ fn is_begun(alloc: Global, call: u64) -> bool {
     let mut sink = MemSink::new(alloc)
         .in_pieces_of(NonZeroUsize::MIN)
         .upset_at(call, SinkUpset::Fail);
-    let received = Record::In(101, &KEEPALIVE);
-    let is_refused = answers(&mut sink, &SESSION, &received, Err(WriteFault::Device));
+    let is_refused = answers(&mut sink, &SESSION, &KEPT_ALIVE, Err(WriteFault::Device));
     let taken = sink.octets();
     is_refused && sink.failures() == 1 && taken.len() as u64 == call && RECEIVED.starts_with(taken)
 }
@@ -83,23 +81,37 @@ fn records_are_written_octet_by_octet(rt: HostRuntime) {
     }
 }
 
-/// Whether a record was refused by a sink with so many octets of its heap left: `None` where what
-/// it holds then is wrong. Refused, it has a beginning of the record, and takes the whole one after
-/// it, with memory.
-fn is_refused_beside(heap: &LocalHeap, left: usize) -> Option<bool> {
-    let received = Record::In(101, &KEEPALIVE);
-    let mut sink = MemSink::new(heap);
+/// Whether a record is written where so many octets of the heap are left.
+fn is_written_beside(heap: &LocalHeap, sink: &mut MemSink<&LocalHeap>, left: usize) -> bool {
     let ballast: Result<Vec<u8, _>, _> = Vec::with_capacity(heap, heap.free().saturating_sub(left));
-    let is_written = answers(&mut sink, &SESSION, &received, Ok(()));
+    let is_written = answers(sink, &SESSION, &KEPT_ALIVE, Ok(()));
     drop(ballast);
-    if is_written {
-        return is_joined(sink.octets(), &[&RECEIVED]).then_some(false);
-    }
-    let begun = RECEIVED.get(..sink.octets().len())?;
-    let is_again = sink.failures() == 1
-        && is_joined(sink.octets(), &[begun])
-        && answers(&mut sink, &SESSION, &received, Ok(()));
-    (is_again && is_joined(sink.octets(), &[begun, &RECEIVED])).then_some(true)
+    is_written
+}
+
+/// Whether a sink that refused a record has a beginning of it, and takes the whole one after it,
+/// with memory.
+fn is_taken_again(sink: &mut MemSink<&LocalHeap>) -> bool {
+    let Some(begun) = RECEIVED.get(..sink.octets().len()) else {
+        return false;
+    };
+    sink.failures() == 1
+        && sink.octets() == begun
+        && answers(sink, &SESSION, &KEPT_ALIVE, Ok(()))
+        && is_joined(sink.octets(), &[begun, &RECEIVED])
+}
+
+/// Whether a record was refused by a sink with so many octets of its heap left: `None` where what
+/// it holds then is wrong.
+fn is_refused_beside(heap: &LocalHeap, left: usize) -> Option<bool> {
+    let mut sink = MemSink::new(heap);
+    let is_written = is_written_beside(heap, &mut sink, left);
+    let is_right = if is_written {
+        sink.octets() == RECEIVED.as_slice()
+    } else {
+        is_taken_again(&mut sink)
+    };
+    is_right.then_some(!is_written)
 }
 
 /// The same of a heap of its own.
