@@ -12,12 +12,20 @@ use crate::words::{command_of, words_of};
 use bgp_commands::{Answer, reads_file};
 use bgp_compact::CompactTracker;
 use bgp_import::{Imported, Stopped};
-use bgp_judge::{PlainTracker, Tracker};
 use bgp_prefix::Session;
 use bgp_words::Command;
+use linked_list_allocator::LocalHeap;
 use mrt::FromWrite;
 use std::alloc::Global;
 use std::io;
+
+/// How many octets of memory a command has, if nothing else is said: more than any case needs.
+const ENOUGH: usize = 1 << 28;
+
+/// The memory of a command.
+pub(crate) fn memory(alloc: Global) -> io::Result<LocalHeap> {
+    Ok(LocalHeap::new(alloc, ENOUGH)?)
+}
 
 /// The lines of the answer to the words of a command over a file.
 pub(crate) fn answer_to(alloc: Global, words: &str, file: &File<'_>) -> io::Result<String> {
@@ -25,30 +33,28 @@ pub(crate) fn answer_to(alloc: Global, words: &str, file: &File<'_>) -> io::Resu
     let Ok(command) = command_of(alloc, words.as_slice()) else {
         return Err(malformed());
     };
-    answer_by_both(alloc, &command, file)
+    lines_to(alloc, &command, file)
 }
 
-/// The lines of the answer to a command, by both trackers.
-pub(crate) fn answer_by_both(
+/// The lines of the answer to a command.
+pub(crate) fn lines_to(
     alloc: Global,
     command: &Command<'_>,
     file: &File<'_>,
 ) -> io::Result<String> {
-    let plain = answer_by::<PlainTracker<Global>>(alloc, command, file)?;
-    let compact = answer_by::<CompactTracker<Global>>(alloc, command, file)?;
-    if plain == compact {
-        Ok(compact)
-    } else {
-        Ok(format!(in alloc; "the trackers differ: {plain}\nand\n{compact}")?)
-    }
+    let heap = memory(alloc)?;
+    let (answer, octets) = answer_in(alloc, &heap, command, file)?;
+    lines_of(alloc, &answer, octets.as_slice())
 }
 
-/// The lines of the answer to a command, by one.
-pub(crate) fn answer_by<T: Tracker<Global>>(
+/// The answer to a command that takes its memory from a heap, and the octets that it prints or
+/// writes.
+pub(crate) fn answer_in<'a, 'h>(
     alloc: Global,
-    command: &Command<'_>,
+    heap: &'h LocalHeap,
+    command: &Command<'a>,
     file: &File<'_>,
-) -> io::Result<String> {
+) -> io::Result<(Answer<'a, &'h LocalHeap>, Vec<u8>)> {
     if !reads_file(command) {
         return Err(malformed());
     }
@@ -57,12 +63,14 @@ pub(crate) fn answer_by<T: Tracker<Global>>(
     }
     let mut sink = FromWrite::new(Vec::new(alloc));
     let opened = Ok(file.reader());
-    let answer = bgp_commands::answer_to::<Global, T, _, _>(alloc, command, opened, &mut sink);
-    lines_of(alloc, &answer, sink.into_inner().as_slice())
+    let answer = bgp_commands::answer_to::<&LocalHeap, CompactTracker<&LocalHeap>, _, _>(
+        heap, command, opened, &mut sink,
+    );
+    Ok((answer, sink.into_inner()))
 }
 
 /// Whether a command, if it imports, names ends as packets have them and that can be told apart.
-pub(crate) fn can_import(command: &Command<'_>) -> bool
+fn can_import(command: &Command<'_>) -> bool
     ensures { IsTrue result → CanImport command.now }
 {
     match command {
@@ -96,7 +104,7 @@ fn are_apart(session: &Session, local_port: Option<u16>) -> bool
 
 /// The lines of an answer that printed these octets, or wrote them as a capture. What is told on
 /// standard error stands before what is printed, but for `check`.
-fn lines_of(alloc: Global, answer: &Answer<'_>, octets: &[u8]) -> io::Result<String> {
+fn lines_of(alloc: Global, answer: &Answer<'_, &LocalHeap>, octets: &[u8]) -> io::Result<String> {
     let mut told = Told::with_status(alloc, answer.status());
     match answer {
         Answer::Imported(imported, ..) => {

@@ -1,13 +1,14 @@
 //! Recordings of real sessions, explained as the captures that are made of them.
 
-use crate::answer::answer_by_both;
+use crate::answer::{answer_in, lines_to, memory};
 use crate::case::malformed;
 use crate::file::File;
-use crate::words::{command_of, import_of, words_of};
-use bgp_import::{RecordingOptions, import_recording};
+use crate::words::{command_of, words_of};
+use bgp_commands::Answer;
+use bgp_import::RecordingOptions;
 use bgp_open::{Config, ConfigParts};
 use bgp_words::{Command, Reporting};
-use mrt::MemSink;
+use linked_list_allocator::LocalHeap;
 use std::alloc::Global;
 use std::io;
 
@@ -23,14 +24,26 @@ struct Talk {
 
 /// The capture that is made of the connection, if there is such a one.
 fn capture_of(alloc: Global, talk: &Talk, recording: &File<'_>) -> io::Result<Option<Vec<u8>>> {
-    let Some(import) = import_of(&talk.config.parts.session, &talk.options) else {
-        return Err(malformed());
+    let import = Command::Import {
+        session: talk.config.parts.session,
+        recording: talk.options,
+        file: "-",
+        out: "-",
     };
-    let mut source = recording.source(alloc)?;
-    let mut sink = MemSink::new(alloc);
-    match import_recording(alloc, &import, &mut source, &mut sink).ended {
-        Ok(_) => Ok(Some(sink.into_octets())),
-        Err(_) => Ok(None),
+    let heap = memory(alloc)?;
+    let (answer, octets) = answer_in(alloc, &heap, &import, recording)?;
+    if is_capture(&answer) {
+        Ok(Some(octets))
+    } else {
+        Ok(None)
+    }
+}
+
+/// Whether an answer is a capture that was made whole.
+fn is_capture(answer: &Answer<'_, &LocalHeap>) -> bool {
+    match answer {
+        Answer::Imported(imported, ..) => imported.ended.is_ok(),
+        _ => false,
     }
 }
 
@@ -108,8 +121,7 @@ fn is_same(answer: &str, known: &str) -> bool {
     known.next().is_none() && answer.starts_with("status ")
 }
 
-/// Prints a connection that isn't explained as its capture, by both trackers. Answers whether it
-/// is.
+/// Prints a connection that isn't explained as its capture. Answers whether it is.
 fn compare_answers<R: Print + AllocGlobal>(
     rt: &R,
     talk: &Talk,
@@ -125,8 +137,8 @@ fn compare_answers<R: Print + AllocGlobal>(
         },
         file: "-",
     };
-    let known = answer_by_both(rt.alloc(), &explain, capture)?;
-    let answer = answer_by_both(rt.alloc(), &explain, recording)?;
+    let known = lines_to(rt.alloc(), &explain, capture)?;
+    let answer = lines_to(rt.alloc(), &explain, recording)?;
     let is_so = is_same(answer.as_str(), known.as_str());
     if !is_so {
         println!(rt; "{answer}\nbut\n{known}")?;

@@ -1,11 +1,7 @@
 //! A file that a command reads.
 
-ghost use Rattle.std.specs.Prelude.{◌<◌, ◌^◌, IfOk};
-
 use bgp_recording_tool::Peeked;
 use bgp_tool::Ready;
-use mrt::MemSource;
-use std::alloc::Global;
 use std::io;
 use std::io::Read;
 use std::num::NonZeroUsize;
@@ -45,14 +41,6 @@ impl<'a> File<'a> {
             octets: self.octets,
             most: self.most,
         }
-    }
-
-    /// What reads it, as a source.
-    pub(crate) fn source(&self, alloc: Global) -> io::Result<MemSource>
-        ensures { IfOk result (λ source. source.failures < 2 ^ 63) }
-    {
-        let octets = Vec::from_slice(alloc, self.octets)?;
-        Ok(MemSource::new(octets).in_pieces_of(self.most))
     }
 }
 

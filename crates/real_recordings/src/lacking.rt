@@ -1,14 +1,10 @@
 //! Commands that run over real files with too little memory: the exit status is 4 then.
 
-use crate::answer::can_import;
+use crate::answer::answer_in;
 use crate::case::malformed;
 use crate::file::File;
 use crate::words::{command_of, words_of};
-use bgp_commands::{answer_to, reads_file};
-use bgp_compact::CompactTracker;
-use bgp_words::Command;
 use linked_list_allocator::LocalHeap;
-use mrt::FromWrite;
 use std::alloc::Global;
 use std::rt::Files;
 use std::{fs, io};
@@ -47,27 +43,7 @@ fn status_with(alloc: Global, line: &str, octets: &[u8], size: usize) -> io::Res
     let Ok(command) = command_of(alloc, words.as_slice()) else {
         return Err(malformed());
     };
-    answered_with(alloc, &command, octets, size)
-}
-
-/// The exit status of a command over these octets, if it may take so much memory.
-fn answered_with(
-    alloc: Global,
-    command: &Command<'_>,
-    octets: &[u8],
-    size: usize,
-) -> io::Result<u8> {
-    if !reads_file(command) {
-        return Err(malformed());
-    }
-    if !can_import(command) {
-        return Err(malformed());
-    }
     let heap = LocalHeap::new(alloc, size)?;
-    let mut sink = FromWrite::new(Vec::new(alloc));
-    let opened = Ok(File::read_at_once(octets).reader());
-    let answer = answer_to::<&LocalHeap, CompactTracker<&LocalHeap>, _, _>(
-        &heap, command, opened, &mut sink,
-    );
+    let (answer, _) = answer_in(alloc, &heap, &command, &File::read_at_once(octets))?;
     Ok(answer.status())
 }

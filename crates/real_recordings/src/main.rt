@@ -22,10 +22,9 @@
 //! `options.txt` was worked out by hand from the RFCs and docs/bgp.1.md: for options of each
 //! command a file whose answer is another one by that option. All these are answered by the
 //! function that answers the program's commands (`answer_to` of bgp_commands), over octets in
-//! memory. Each file is read at once and octet by octet, and what judges does so by the plain
-//! tracker and by the compact one. `words.txt` has command lines, and the command that each spells,
-//! or the status and the message. `announced.txt` has prefixes that `bgp speak` is to announce,
-//! and the answer for each.
+//! memory and with a heap of its own. Each file is read at once and octet by octet. `words.txt` has
+//! command lines, and the command that each spells, or the status and the message. `announced.txt`
+//! has prefixes that `bgp speak` is to announce, and the answer for each.
 //!
 //! So are the examples of `bgp judge` in `judge`, from the words of the command line on.
 //!

@@ -1,11 +1,9 @@
 //! Verdicts in JSON, read back as the lines that are printed without it.
 
-use crate::answer::answer_by;
+use crate::answer::answer_to;
 use crate::case::malformed;
 use crate::file::File;
-use crate::words::{command_of, words_of};
 use bgp_clock::{put_clock, put_when};
-use bgp_compact::CompactTracker;
 use bgp_text::Lines;
 use json::{Error, Scratch, Value};
 use mrt::MemSink;
@@ -16,11 +14,58 @@ use std::io;
 /// Origins by their names.
 static ORIGINS: [(&str, &str); 3] = [("IGP", "0"), ("EGP", "1"), ("INCOMPLETE", "2")];
 
-/// What is said if it isn't known what other orders allow.
-const UNKNOWN: &str = "  or: perhaps more in another order (too many to try, or out of memory)";
-
 /// Lists that a route may have.
 static LISTS: [&str; 3] = ["communities", "extended", "large"];
+
+/// How an object's line reads, by its type. A key in braces stands for the text or the number under
+/// it; where nothing is under it, the words before it are left out, too. `{date}` is the object's
+/// time, and `{place}` where a record stands and its time, if there is one.
+static LINES: [(&str, &str); 16] = [
+    ("verdict", "{answer} at record {record} at packet {packet}"),
+    (
+        "record",
+        "  record {record}, packet {packet}, {date} UTC: {address} {deed}",
+    ),
+    ("message", "  message: {line}"),
+    ("data", "  data: {line}"),
+    ("not_whole", "  not a whole message: {text}"),
+    ("state", "  state: {state} since {place}"),
+    (
+        "last_received",
+        "  last received: {place}, {message}: {asked}",
+    ),
+    (
+        "possible_in_another_order",
+        "  or: in another order, {item}",
+    ),
+    (
+        "other_orders_unknown",
+        "  or: perhaps more in another order (too many to try, or out of memory)",
+    ),
+    (
+        "sent_already",
+        "  note: it had sent NOTIFICATION {code}/{subcode} ({name}) already, at {place}",
+    ),
+    ("note", "  note: {text}"),
+    (
+        "records",
+        "  records of the session: {records} (received {received}, sent {sent}, changes of state \
+         {changes})",
+    ),
+    ("ignored", "  received in Idle, and ignored: {count}"),
+    (
+        "skipped",
+        "  records of other {of}: {count}, the first of --peer {first.peer} --local {first.local}",
+    ),
+    (
+        "connection",
+        "connection {connection} from {from} {from_port} to {to} {to_port} at {second}",
+    ),
+    (
+        "refused",
+        "{what} refused: {number} {name} at {at} at packet {packet} {direction} octet {octet}",
+    ),
+];
 
 /// Returns the text under a key; nothing if there is none.
 fn text_at<'a>(object: &Value<'a>, key: &str) -> &'a str {
@@ -30,6 +75,15 @@ fn text_at<'a>(object: &Value<'a>, key: &str) -> &'a str {
 /// Returns the number under a key, if there is one.
 fn number_at<'a>(object: &Value<'a>, key: &str) -> Option<&'a str> {
     object.get(key).and_then(Value::as_number)
+}
+
+/// Returns the text or the number under a key, or under two with a dot between them.
+fn said_at<'a>(object: &Value<'a>, key: &str) -> Option<&'a str> {
+    let value = match key.split_once('.') {
+        Some((outer, inner)) => object.get(outer)?.get(inner)?,
+        None => object.get(key)?,
+    };
+    value.as_str().or_else(|| value.as_number())
 }
 
 /// Whether true stands under a key.
@@ -42,32 +96,6 @@ fn values_of<'v, 'a>(value: Option<&'v Value<'a>>) -> Option<&'v [Value<'a>]> {
     match value {
         Some(Value::Array(values)) => Some(values.as_slice()),
         _ => None,
-    }
-}
-
-/// Puts words, and the number under a key, if there is one.
-fn put_number_at(
-    text: &mut String,
-    words: &str,
-    object: &Value<'_>,
-    key: &str,
-) -> Result<(), AllocError> {
-    match number_at(object, key) {
-        Some(number) => write!(text, "{words}{number}"),
-        None => Ok(()),
-    }
-}
-
-/// Puts words, and the text under a key, if there is one.
-fn put_text_at(
-    text: &mut String,
-    words: &str,
-    object: &Value<'_>,
-    key: &str,
-) -> Result<(), AllocError> {
-    match object.get(key).and_then(Value::as_str) {
-        Some(said) => write!(text, "{words}{said}"),
-        None => Ok(()),
     }
 }
 
@@ -98,24 +126,42 @@ fn put_time(
     }
 }
 
-/// Puts where a record stands, and its time.
-fn put_at(text: &mut String, alloc: Global, object: &Value<'_>) -> io::Result<()> {
+/// Puts words, where a record stands, and its time; nothing if there is no record.
+fn put_place(text: &mut String, alloc: Global, object: &Value<'_>, words: &str) -> io::Result<()> {
+    let Some(record) = number_at(object, "record") else {
+        return Ok(());
+    };
     match number_at(object, "packet") {
-        Some(packet) => write!(text, "packet {packet}, ")?,
-        None => write!(
-            text,
-            "record {}, ",
-            number_at(object, "record").unwrap_or("")
-        )?,
+        Some(packet) => write!(text, "{words}packet {packet}, ")?,
+        None => write!(text, "{words}record {record}, ")?,
     }
     put_time(text, alloc, object, is_so(object, "dated"))
 }
 
-/// Puts what a verdict answers.
-fn put_verdict(text: &mut String, object: &Value<'_>) -> Result<(), AllocError> {
-    text.push_str(text_at(object, "answer"))?;
-    put_number_at(text, " at record ", object, "record")?;
-    put_number_at(text, " at packet ", object, "packet")
+/// Puts words, and what is said under a key, if something is.
+fn put_said(
+    text: &mut String,
+    object: &Value<'_>,
+    words: &str,
+    key: &str,
+) -> Result<(), AllocError> {
+    match said_at(object, key) {
+        Some(said) => write!(text, "{words}{said}"),
+        None => Ok(()),
+    }
+}
+
+/// Puts a piece of a line: words, and a key behind a brace; or words alone.
+fn put_piece(text: &mut String, alloc: Global, object: &Value<'_>, piece: &str) -> io::Result<()> {
+    match piece.split_once('{') {
+        Some((words, "date")) => {
+            text.push_str(words)?;
+            put_time(text, alloc, object, true)
+        }
+        Some((words, "place")) => put_place(text, alloc, object, words),
+        Some((words, key)) => Ok(put_said(text, object, words, key)?),
+        None => Ok(text.push_str(piece)?),
+    }
 }
 
 /// Puts an end.
@@ -174,7 +220,7 @@ fn put_list(text: &mut String, word: &str, object: &Value<'_>) -> Result<(), All
 /// Puts the prefix, the next hop and the path of a route.
 fn put_path(text: &mut String, object: &Value<'_>) -> Result<(), AllocError> {
     write!(text, "route {}", text_at(object, "prefix"))?;
-    put_number_at(text, "#", object, "path_id")?;
+    put_said(text, object, "#", "path_id")?;
     let mut before = " via ";
     if let Some(hops) = values_of(object.get("next_hop")) {
         for hop in hops {
@@ -195,48 +241,18 @@ fn put_route(text: &mut String, object: &Value<'_>) -> Result<(), AllocError> {
     let name = text_at(object, "origin");
     let origin = ORIGINS.iter().find(|(origin, _)| *origin == name);
     write!(text, " origin {}", origin.map_or("", |(_, number)| *number))?;
-    put_number_at(text, " med ", object, "med")?;
-    put_number_at(text, " pref ", object, "pref")?;
+    put_said(text, object, " med ", "med")?;
+    put_said(text, object, " pref ", "pref")?;
     if is_so(object, "atomic") {
         text.push_str(" atomic")?;
     }
-    if let Some(aggregator) = object.get("aggregator") {
-        put_number_at(text, " aggregator ", aggregator, "as")?;
-        put_text_at(text, " ", aggregator, "address")?;
-    }
+    put_said(text, object, " aggregator ", "aggregator.as")?;
+    put_said(text, object, " ", "aggregator.address")?;
     for list in &LISTS {
         put_list(text, list, object)?;
     }
-    put_text_at(text, " originator ", object, "originator")?;
+    put_said(text, object, " originator ", "originator")?;
     put_list(text, "clusters", object)
-}
-
-/// Puts the impossible record.
-fn put_record(text: &mut String, alloc: Global, object: &Value<'_>) -> io::Result<()> {
-    put_number_at(text, "  record ", object, "record")?;
-    put_number_at(text, ", packet ", object, "packet")?;
-    text.push_str(", ")?;
-    put_time(text, alloc, object, true)?;
-    put_text_at(text, " UTC: ", object, "address")?;
-    Ok(put_text_at(text, " ", object, "deed")?)
-}
-
-/// Puts the state.
-fn put_state(text: &mut String, alloc: Global, object: &Value<'_>) -> io::Result<()> {
-    put_text_at(text, "  state: ", object, "state")?;
-    if number_at(object, "record").is_none() {
-        return Ok(());
-    }
-    text.push_str(" since ")?;
-    put_at(text, alloc, object)
-}
-
-/// Puts the message that was received last.
-fn put_received(text: &mut String, alloc: Global, object: &Value<'_>) -> io::Result<()> {
-    text.push_str("  last received: ")?;
-    put_at(text, alloc, object)?;
-    put_text_at(text, ", ", object, "message")?;
-    Ok(put_text_at(text, ": ", object, "asked")?)
 }
 
 /// Returns the words before an item.
@@ -255,85 +271,26 @@ fn item_words(object: &Value<'_>) -> &'static str {
 /// Puts an item.
 fn put_item(text: &mut String, object: &Value<'_>) -> Result<(), AllocError> {
     write!(text, "  {}{}", item_words(object), text_at(object, "item"))?;
-    put_text_at(text, "; ", object, "but")
-}
-
-/// Puts a NOTIFICATION that was sent already.
-fn put_sent(text: &mut String, alloc: Global, object: &Value<'_>) -> io::Result<()> {
-    put_number_at(text, "  note: it had sent NOTIFICATION ", object, "code")?;
-    put_number_at(text, "/", object, "subcode")?;
-    write!(text, " ({}) already, at ", text_at(object, "name"))?;
-    put_at(text, alloc, object)
-}
-
-/// Puts how many records there are.
-fn put_records(text: &mut String, object: &Value<'_>) -> Result<(), AllocError> {
-    put_number_at(text, "  records of the session: ", object, "records")?;
-    put_number_at(text, " (received ", object, "received")?;
-    put_number_at(text, ", sent ", object, "sent")?;
-    put_number_at(text, ", changes of state ", object, "changes")?;
-    text.push_str(")")
-}
-
-/// Puts how many records of another kind or session there are.
-fn put_skipped(text: &mut String, object: &Value<'_>) -> Result<(), AllocError> {
-    write!(text, "  records of other {}: ", text_at(object, "of"))?;
-    put_number_at(text, "", object, "count")?;
-    match object.get("first") {
-        Some(first) => {
-            put_text_at(text, ", the first of --peer ", first, "peer")?;
-            put_text_at(text, " --local ", first, "local")
-        }
-        None => Ok(()),
-    }
-}
-
-/// Puts a connection that is judged then.
-fn put_connection(text: &mut String, object: &Value<'_>) -> Result<(), AllocError> {
-    put_number_at(text, "connection ", object, "connection")?;
-    put_text_at(text, " from ", object, "from")?;
-    put_number_at(text, " ", object, "from_port")?;
-    put_text_at(text, " to ", object, "to")?;
-    put_number_at(text, " ", object, "to_port")?;
-    put_number_at(text, " at ", object, "second")
-}
-
-/// Puts what is refused.
-fn put_refused(text: &mut String, object: &Value<'_>) -> Result<(), AllocError> {
-    write!(text, "{} refused: ", text_at(object, "what"))?;
-    put_number_at(text, "", object, "number")?;
-    put_text_at(text, " ", object, "name")?;
-    put_number_at(text, " at ", object, "at")?;
-    put_number_at(text, " at packet ", object, "packet")?;
-    put_text_at(text, " ", object, "direction")?;
-    put_number_at(text, " octet ", object, "octet")
+    put_said(text, object, "; ", "but")
 }
 
 /// Puts the line of an object.
 fn put_line(text: &mut String, alloc: Global, object: &Value<'_>) -> io::Result<()> {
     match text_at(object, "type") {
-        "verdict" => put_verdict(text, object)?,
-        "end" => put_end(text, object)?,
-        "route" => put_route(text, object)?,
-        "record" => put_record(text, alloc, object)?,
-        "message" => put_text_at(text, "  message: ", object, "line")?,
-        "data" => put_text_at(text, "  data: ", object, "line")?,
-        "not_whole" => put_text_at(text, "  not a whole message: ", object, "text")?,
-        "state" => put_state(text, alloc, object)?,
-        "last_received" => put_received(text, alloc, object)?,
-        "possible" => put_item(text, object)?,
-        "possible_in_another_order" => {
-            put_text_at(text, "  or: in another order, ", object, "item")?;
-        }
-        "other_orders_unknown" => text.push_str(UNKNOWN)?,
-        "sent_already" => put_sent(text, alloc, object)?,
-        "note" => put_text_at(text, "  note: ", object, "text")?,
-        "records" => put_records(text, object)?,
-        "ignored" => put_number_at(text, "  received in Idle, and ignored: ", object, "count")?,
-        "skipped" => put_skipped(text, object)?,
-        "connection" => put_connection(text, object)?,
-        "refused" => put_refused(text, object)?,
-        _ => return Err(malformed()),
+        "end" => Ok(put_end(text, object)?),
+        "route" => Ok(put_route(text, object)?),
+        "possible" => Ok(put_item(text, object)?),
+        name => match LINES.iter().find(|(of, _)| *of == name) {
+            Some((_, line)) => put_pieces(text, alloc, object, line),
+            None => Err(malformed()),
+        },
+    }
+}
+
+/// Puts all pieces of a line.
+fn put_pieces(text: &mut String, alloc: Global, object: &Value<'_>, line: &str) -> io::Result<()> {
+    for piece in line.split('}') {
+        put_piece(text, alloc, object, piece)?;
     }
     Ok(())
 }
@@ -364,15 +321,6 @@ fn plain_of(alloc: Global, answer: &str) -> io::Result<String> {
     Ok(text)
 }
 
-/// Returns what the words of a command over a file answer.
-fn answer_of(alloc: Global, words: &str, file: &File<'_>) -> io::Result<String> {
-    let words = words_of(alloc, words)?;
-    let Ok(command) = command_of(alloc, words.as_slice()) else {
-        return Err(malformed());
-    };
-    answer_by::<CompactTracker<Global>>(alloc, &command, file)
-}
-
 /// Prints a case whose answer in JSON doesn't say what its answer in text says. Returns whether it
 /// does.
 pub(crate) fn compare_objects<R: Print + AllocGlobal>(
@@ -381,9 +329,9 @@ pub(crate) fn compare_objects<R: Print + AllocGlobal>(
     file: &File<'_>,
 ) -> io::Result<bool> {
     let alloc = rt.alloc();
-    let known = answer_of(alloc, words, file)?;
+    let known = answer_to(alloc, words, file)?;
     let words = format!(in alloc; "{words} --json")?;
-    let answer = answer_of(alloc, words.as_str(), file)?;
+    let answer = answer_to(alloc, words.as_str(), file)?;
     let read = plain_of(alloc, answer.as_str())?;
     let is_so = read.trim_end() == known.trim_end();
     if !is_so {

@@ -1,10 +1,9 @@
 //! Whether `bgp judge` gives each verdict that is told with its options.
 
-use crate::answer::answer_by;
+use crate::answer::lines_to;
 use crate::case::malformed;
 use crate::file::File;
 use crate::words::{command_of, words_of};
-use bgp_compact::CompactTracker;
 use bgp_words::{Command, Reporting};
 use std::alloc::Global;
 use std::io;
@@ -32,7 +31,7 @@ fn judged(alloc: Global, file: &File<'_>, line: &str) -> io::Result<String> {
         },
         file: name,
     };
-    answer_by::<CompactTracker<Global>>(alloc, &explain, file)
+    lines_to(alloc, &explain, file)
 }
 
 /// A line around the number of a record that it names.
