@@ -140,7 +140,7 @@ fn is_refused(arena: &Arena, size: usize) -> bool {
     block_of(arena, size).is_err()
 }
 
-/// Whether an arena refuses more blocks, and tells so from the first on.
+/// Whether an arena refuses more blocks, and says so from the first one on.
 fn is_used_up(arena: &Arena) -> bool {
     !arena.has_refused() && is_refused(arena, 100) && arena.has_refused() && is_refused(arena, 16)
 }

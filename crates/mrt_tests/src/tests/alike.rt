@@ -45,7 +45,7 @@ fn is_plain_read(alloc: Global, octets: &[u8], is_plain: bool) -> bool {
     }
 }
 
-/// Whether that is told.
+/// Whether a file with such a body is plain or not, as its row says.
 fn is_plain_told(alloc: Global, (body, is_plain): &(Body, bool)) -> Option<bool> {
     Some(is_plain_read(alloc, &file_with(alloc, *body)?, *is_plain))
 }
@@ -89,7 +89,7 @@ static LISTS: [(bool, &[Record<'static>], bool); 8] = [
     (true, &[], false),
 ];
 
-/// Whether that is told.
+/// Whether a session has just these records of a file, or others, as a row says.
 fn is_list_told(
     alloc: Global,
     (is_other, records, is_so): &(bool, &[Record<'_>], bool),

@@ -26,8 +26,8 @@ static FRACTIONS: [(u32, Option<u32>); 5] = [
     (u32::MAX, None),
 ];
 
-/// Whether a reader tells this fraction of the first record, and of the second one none.
-fn tells(reader: &mut Reader, source: &mut MemSource, micro: Option<u32>) -> bool {
+/// Whether a reader has this fraction after the first record, and none after the second one.
+fn has_fractions(reader: &mut Reader, source: &mut MemSource, micro: Option<u32>) -> bool {
     reader.micro().is_none()
         && is_next(reader, source, &SESSION, &CHANGED)
         && reader.micro() == micro
@@ -35,8 +35,8 @@ fn tells(reader: &mut Reader, source: &mut MemSource, micro: Option<u32>) -> boo
         && reader.micro().is_none()
 }
 
-/// Whether the records of a file tell the same.
-fn tell(file: &FileRecords<'_>, micro: Option<u32>) -> bool {
+/// Whether the records of a file have the same.
+fn have_fractions(file: &FileRecords<'_>, micro: Option<u32>) -> bool {
     match file.records.as_slice() {
         [first, second] => first.micro() == micro && second.micro().is_none(),
         _ => false,
@@ -46,10 +46,10 @@ fn tell(file: &FileRecords<'_>, micro: Option<u32>) -> bool {
 /// Whether both are so, of a reader of these octets and of the file that they are.
 fn is_told(alloc: Global, octets: Vec<u8>, micro: Option<u32>) -> bool {
     let is_in_file = match records_in(alloc, octets.as_slice()) {
-        Ok(file) => tell(&file, micro),
+        Ok(file) => have_fractions(&file, micro),
         Err(AllocError) => false,
     };
-    is_in_file && tells(&mut Reader::new(alloc), &mut MemSource::new(octets), micro)
+    is_in_file && has_fractions(&mut Reader::new(alloc), &mut MemSource::new(octets), micro)
 }
 
 /// Whether both are, where a record has so many microseconds.

@@ -58,7 +58,7 @@ fn has(
         }
 }
 
-/// Whether both sessions are told, the second of which is refused at its first record.
+/// Whether a file has both sessions, of which the second is refused at its first record.
 fn are_both_told(alloc: Global, sessions: &Sessions<'_>) -> bool {
     let both = [Record::Change(100, 1, 2), KEPT_ALIVE];
     let add_path = CaptureFault {
@@ -82,7 +82,7 @@ fn are_told(alloc: Global, file: &FileRecords<'_>) -> bool {
     }
 }
 
-/// Whether that file is told so.
+/// Whether such a file is read so.
 fn is_file_told(alloc: Global) -> Option<bool> {
     let octets = joined(alloc, &[&CHANGE, &ADD_PATH, &RECEIVED, &CHANGE[..35]])?;
     match records_in(alloc, octets.as_slice()) {
