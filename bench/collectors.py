@@ -7,8 +7,8 @@ capture (MRT) and a recording (pcap) of them.
     collectors.py STREAM PROGRAM [BEFORE]
 
 PROGRAM is the program that `rt run` built (crates/bgp/out/bgp); BEFORE is another one, which is
-measured in the same run. Wants Linux, Python 3.9, valgrind, md5sum, and where it is installed
-bgpdump. Prints figures; it is no test. Instructions are counted on some 2 MB, times on 20 MB."""
+measured in the same run. Wants Linux, Python 3.9, GNU time, valgrind, md5sum, and where it is
+installed bgpdump. Prints figures; it is no test. Instructions are counted on some 2 MB, times on 20 MB."""
 import os
 import re
 import resource
@@ -59,13 +59,11 @@ def spent(words):
 
 
 def peak(words):
-    """The greatest resident memory of a command, in octets."""
-    code = ('import resource, subprocess, sys\n'
-            'quiet = subprocess.DEVNULL\n'
-            'subprocess.run(sys.argv[1:], stdout=quiet, stderr=quiet)\n'
-            'print(resource.getrusage(resource.RUSAGE_CHILDREN).ru_maxrss)')
-    ran = subprocess.run([sys.executable, '-c', code, *words], stdout=subprocess.PIPE, text=True)
-    return int(ran.stdout) * 1024
+    """The greatest resident memory of a command, in octets. GNU time starts it, since what Python
+    starts counts with Python's own."""
+    ran = subprocess.run(['time', '-f', '%M', *words], stdout=subprocess.DEVNULL,
+                         stderr=subprocess.PIPE, text=True)
+    return int(ran.stderr.split()[-1]) * 1024
 
 
 def compare(program, words, other, files, work):
