@@ -54,8 +54,8 @@ fn free_link(words: &Words) -> Option<(Link, HoldTimer)>
     }
 }
 
-/// What is left of such members by an UPDATE that can only be applied; `None` is no answer, and any
-/// record may have it.
+/// What is left of such members by an UPDATE that can only be applied. `None` says nothing of the
+/// record: it wasn't seen at once that it can only be applied.
 pub(crate) fn applied<A: Allocator + Copy>(
     alloc: A,
     config: &Config,
