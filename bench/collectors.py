@@ -1,5 +1,5 @@
 #!/usr/bin/env python3
-"""What `bgp` costs on what collectors really send, beside `md5sum` and its own other commands: in
+"""What `bgp` costs on messages as a collector receives them, beside `md5sum` and its own other commands: in
 instructions, which hardly differ between runs, and in processor time, the least of some runs by
 turns. The messages are those of a raw stream that is given; `collected.py` makes a stream, a
 capture (MRT) and a recording (pcap) of them.

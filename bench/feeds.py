@@ -1,18 +1,21 @@
 #!/usr/bin/env python3
 """What a full feed costs, in one run on a quiet machine: processor time, the least of some runs by
 turns, peak memory and then instructions, of programs beside each other, md5sum, bgpdump and a table
-of hashes in C (hash.c) that makes the same changes and nothing else.
+of hashes in C (hash.c) that makes the IPv4 changes and nothing else.
 
     feeds.py STREAM OCTETS PREFIXES FURTHER RECORDING RUNS PROGRAM [BEFORE ..]
 
-The files: the messages of the raw stream STREAM again and again, until there are so many OCTETS, as a
-stream and as a capture (collected.py); a session of so many PREFIXES with so many FURTHER records
+The files: the messages of the raw stream STREAM again and again, until there are so many OCTETS, as
+a stream and as a capture (collected.py); a session of so many PREFIXES with so many FURTHER records
 (sessions.py); and the stream's messages as packets, a recording with so many octets RECORDING of
-them. What a record takes early and late is by the same session with a tenth of FURTHER more and
-fewer. With `mix.bgp 77000000 1000000 2000000 200000000 7` it takes half an hour. Wants Linux, Python
-3.9, GNU time, cc, valgrind, md5sum and bgpdump. Prints figures; it is no test."""
+them. What a record takes early and late, by PROGRAM alone, is the difference between this session
+with none and with a tenth of FURTHER, and with nine tenths and with all. The instructions of
+bgpdump are counted for the capture alone. `STREAM 77000000 1000000 2000000 200000000 7` with one
+program takes half an hour. Wants Linux, Python 3.9, GNU time, cc, valgrind, md5sum and bgpdump.
+Prints figures; it is no test."""
 import concurrent.futures
 import os
+import shutil
 import subprocess
 import sys
 import tempfile
@@ -125,6 +128,9 @@ def main(stream, octets, prefixes, further, recording, runs, *programs):
 
 
 if __name__ == '__main__':
-    if len(sys.argv) < 8:
+    if len(sys.argv) < 8 or int(sys.argv[4]) < 10:
         sys.exit(__doc__)
+    for needed in ('bgpdump', 'cc', 'md5sum', 'time', 'valgrind'):
+        if shutil.which(needed) is None:
+            sys.exit(f'feeds.py: {needed} is missing')
     main(*sys.argv[1:])

@@ -2,7 +2,7 @@
 """What `bgp judge` costs beside `bgp decode --mrt` of the same capture, in one run: instructions,
 which hardly differ between runs and of which the functions are listed that take most, and
 processor time, the least of some runs by turns. Beside both stand md5sum, bgpdump where it is
-installed, and a table of hashes in C (hash.c), which makes the same changes and nothing else.
+installed, and a table of hashes in C (hash.c), which makes the IPv4 changes and nothing else.
 
     judge.py STREAM OCTETS PREFIXES FURTHER RUNS PROGRAM [BEFORE]
 

@@ -7,9 +7,9 @@
 # judging needs behind 10 MB and behind 200 MB of packets between other hosts; and how much where a
 # packet near the front is lost of 100 MB of UPDATEs, and what is answered.
 # bench/recordings.py makes the recordings.
-# Wants bash, coreutils, python3 and the program that `rt run` built in crates/bgp/out/bgp. Prints
-# figures; it is no test. Words: the program, if it is another one, and how many octets the long
-# recordings have.
+# Wants bash, coreutils, GNU time, python3 and the program that `rt run` built in crates/bgp/out/bgp.
+# Prints figures; it is no test. Words: the program, if it is another one, and how many octets the
+# long recordings have.
 set -euo pipefail
 
 here=$(cd "$(dirname "$0")" && pwd)
@@ -61,10 +61,7 @@ peak() {
 
 # The greatest resident memory in KiB of a run to its end.
 whole() {
-    python3 -c 'import resource, subprocess, sys
-quiet = subprocess.DEVNULL
-subprocess.run(sys.argv[1:], stdout=quiet, stderr=quiet)
-print(resource.getrusage(resource.RUSAGE_CHILDREN).ru_maxrss)' "$@"
+    { /usr/bin/time -f %M "$@" 2>&1 > /dev/null || true; } | tail -n 1
 }
 
 # Prints what listing a recording costs beside md5sum.
