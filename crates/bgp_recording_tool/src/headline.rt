@@ -67,10 +67,10 @@ use std::alloc::Allocator;
 /// * after a yes how many records there are, and of which kinds; of another order its own.
 ///
 /// After a refusal it writes nothing more. Where memory is refused for the reason of a connection,
-/// `note no memory for the reason` stands in its place, and the verdict is told all the same. Where
-/// it is refused for a remark, the connection is refused: no verdict is told without its remarks. By
-/// [`made_records_could_have_stood`](crate::made_records_could_have_stood) each line after a no can
-/// be put to the test, and by
+/// `note: out of memory for the reason` stands in its place, and the verdict is told all the same.
+/// Where it is refused for a remark, the connection is refused: no verdict is told without its
+/// remarks. By [`made_records_could_have_stood`](crate::made_records_could_have_stood) each line
+/// after a no can be put to the test, and by
 /// [`recordings_are_explained_as_judged`](crate::recordings_are_explained_as_judged) the verdict is
 /// the one that is told without a reason.
 ///
